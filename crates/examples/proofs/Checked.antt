@@ -1,0 +1,28 @@
+-- The list of examples holds, by computing each.
+-- Assumes nothing.
+use mathlib.Core.Path.{_≡_, refl}
+use lib.Count.{onesIn}
+use lib.Dec.{lit<, lit≤}
+use Rattle.golay.specs.Golay.{chosen, codeWord, weight, distance}
+use Rattle.golay.specs.Answers.{Decodes, endOf}
+use Rattle.golay.specs.declared.Decoded.the-variants.{Word}
+use Rattle.golay.proofs.Decoder.{nearest}
+use Rattle.examples.specs.Examples.{Hold, done, _and_, examples}
+
+-- 00000F is four flips from the code word of 0, so no code word is nearer
+pub examples-hold : Hold examples
+unfolding Decodes codeWord distance weight chosen onesIn endOf
+examples-hold =
+    let seven : Decodes 0x000007 (Word 0x000 3) = (lit< tt, refl, lit≤ tt) in
+    let eight-d : Decodes 0x7FF38D (Word 0x7FF 3) = (lit< tt, refl, lit≤ tt) in
+    refl
+    and refl
+    and refl
+    and refl
+    and seven
+    and nearest 0x00000F 0x000 4 (lit< tt) refl (lit≤ tt)
+    and eight-d
+    and refl
+    and refl
+    and refl
+    and done

@@ -1,0 +1,57 @@
+-- What the decoders must answer (document 01, "The Golay word").
+-- Stricter than A.4, which reads an end byte of four ones as 00. Assumes nothing.
+use mathlib.Core.Path.{_≡_}
+use mathlib.Core.Logic.{_⊎_}
+use mathlib.Core.Option.{Option, none, some}
+use mathlib.Core.Bool.{cond}
+use Prim.Native.Nat.{ℕ, zero, suc, _/_, _^_, _≤_, _<_}
+use lib.Count.{onesIn}
+use lib.Dec.{leb}
+use Rattle.golay.specs.Golay.{codeWord, weight, distance, syndrome}
+use Rattle.golay.specs.declared.Decoded.{Decoded}
+use Rattle.golay.specs.declared.Decoded.the-variants.{Word, Beyond}
+use Rattle.golay.specs.declared.End.{End}
+use Rattle.golay.specs.declared.End.the-variants.{Zeros, Ones, Neither}
+
+-- the nearest code word is c flips away
+abbrev pub Nearest : ℕ → ℕ → Type 0
+Nearest w c =
+    ((n : ℕ) → n < 4096 → c ≤ distance w (codeWord n))
+    × ((n : ℕ) × (n < 4096) × (distance w (codeWord n) ≡ c))
+
+-- the number and the count of flipped bits, 0 to 3, of the one code word within three flips;
+-- if there is none, beyond repair: the true distance to the nearest code word is then 4
+unfoldable pub Decodes : ℕ → Decoded → Type 0
+Decodes w (Word n c) = (n < 4096) × (distance w (codeWord n) ≡ c) × (c ≤ 3)
+Decodes w Beyond = Nearest w 4
+
+-- document 01's count for each answer
+abbrev pub count : Decoded → ℕ
+count (Word n c) = c
+count Beyond = 4
+
+-- the same as a function, for the crates above: the number below k whose code word lies within three flips
+unfoldable pub readingBelow : ℕ → ℕ → Decoded
+readingBelow zero w = Beyond
+readingBelow (suc k) w =
+    cond (leb (distance w (codeWord k)) 3) (Word k (distance w (codeWord k))) (readingBelow k w)
+
+unfoldable pub reading : ℕ → Decoded
+reading w = readingBelow 4096 w
+
+-- A.3's rule for the entry x at the syndrome s: the number's half of the error of at most three flips with that syndrome;
+-- FFFF where the lightest error with that syndrome has four
+abbrev pub Corrects : ℕ → ℕ → Type 0
+Corrects s x =
+    ((e : ℕ) × (e < 2 ^ 24) × (syndrome e ≡ s) × (weight e ≤ 3) × (x ≡ e / 4096))
+    ⊎ ((x ≡ 0xFFFF) × ((e : ℕ) × (e < 2 ^ 24) × (syndrome e ≡ s) × (weight e ≡ 4)))
+
+-- an end byte with at most three ones means 00, with at least five means FF, and four ones means beyond repair
+unfoldable pub endOf : ℕ → End
+endOf b = cond (leb (onesIn 8 b) 3) Zeros (cond (leb 5 (onesIn 8 b)) Ones Neither)
+
+-- the byte that each answer means; none beyond repair
+abbrev pub endByte : End → Option ℕ
+endByte Zeros = some 0x00
+endByte Ones = some 0xFF
+endByte Neither = none

@@ -1,0 +1,139 @@
+// The extended Golay code of IRIG 106-23 Chapter 7, Appendix A, and the low-latency end byte.
+ghost use mathlib.Core.Path.{_≡_};
+ghost use Prim.Native.Nat.{_<_};
+ghost use Rattle.golay.specs.Golay.{chosen, parity, codeWord, high, syndrome, entryOf};
+ghost use Rattle.golay.specs.Answers.{Corrects, Decodes, endOf};
+
+mod corrections;
+
+use corrections::CORRECTIONS;
+
+// The generator rows (A.2).
+const ROWS: [u16; 12] = [
+    0xC75,
+    0x63B,
+    0xF68,
+    0x7B4,
+    0x3DA,
+    0xD99,
+    0x6CD,
+    0x367,
+    0xDC6,
+    0xA97,
+    0x93E,
+    0x8EB,
+];
+
+// The parity check rows (A.3).
+const CHECKS: [u16; 12] = [
+    0xA4F,
+    0xF68,
+    0x7B4,
+    0x3DA,
+    0x1ED,
+    0xAB9,
+    0xF13,
+    0xDC6,
+    0x6E3,
+    0x93E,
+    0x49F,
+    0xC75,
+];
+
+// A 24-bit word read: the number of the code word within three flips and how many flips; or beyond repair.
+pub enum Decoded {
+    Word { number: u16, flips: u8 },
+    Beyond,
+}
+
+// An end byte read: 00, FF, or beyond repair.
+pub enum End {
+    Zeros,
+    Ones,
+    Neither,
+}
+
+// The exclusive or of the rows that the one bits of n choose, most significant bit first.
+fn combined(rows: [u16; 12], n: u16) -> u16
+    ensures { λ r. ⌜ r ≡ chosen rows n ⌝ }
+{
+    let mut sum: u16 = 0;
+    for i in 0..12 {
+        if (n >> (11 - i)) % 2 == 1 {
+            sum ^= rows[i];
+        }
+    }
+    sum
+}
+
+fn parity_of(n: u16) -> u16
+    ensures { λ r. ⌜ r ≡ parity n ⌝ }
+{
+    combined(ROWS, n)
+}
+
+// The code word of the 12 low bits of n.
+pub fn encode(n: u16) -> u32
+    ensures { λ r. ⌜ r ≡ codeWord n ⌝ }
+{
+    ((n % 4096) as u32) << 12 | parity_of(n) as u32
+}
+
+// A function of its own, so that the contract names the table's list and no copy of it.
+fn entry(table: &[u16; 4096], s: u16) -> u16
+    requires { ⌜ s < 4096 ⌝ }
+    ensures { λ r. ⌜ r ≡ entryOf (now (table .entry)) s ⌝ }
+{
+    table[s as usize]
+}
+
+// What to flip in the number at this syndrome.
+fn correction(s: u16) -> u16
+    requires { ⌜ s < 4096 ⌝ }
+    ensures { λ r. ⌜ Corrects s r ⌝ }
+{
+    entry(&CORRECTIONS, s)
+}
+
+// A word that is no code word.
+fn repaired(w: u32, number: u16, s: u16) -> Decoded
+    requires { ⌜ (number ≡ high w) × (s ≡ syndrome w) ⌝ }
+    ensures { λ r. ⌜ Decodes w r ⌝ }
+{
+    let flipped = correction(s);
+    if flipped == 0xFFFF {
+        return Decoded::Beyond;
+    }
+    let right = number ^ flipped;
+    let flips = u32::count_ones((w ^ encode(right)) % 0x100_0000);
+    Decoded::Word {
+        number: right,
+        flips: flips as u8,
+    }
+}
+
+// What the 24 low bits of w say. An intact word leaves before the table, whose read copies it to the stack.
+pub fn decode(w: u32) -> Decoded
+    ensures { λ r. ⌜ Decodes w r ⌝ }
+{
+    let number = ((w >> 12) % 4096) as u16;
+    let s = combined(CHECKS, (w % 4096) as u16) ^ number;
+    if s == 0 {
+        return Decoded::Word { number, flips: 0 };
+    }
+    repaired(w, number, s)
+}
+
+// What an end byte says.
+pub fn end_of(b: u8) -> End
+    ensures { λ r. ⌜ r ≡ endOf b ⌝ }
+{
+    let ones = u8::count_ones(b);
+    if ones <= 3 {
+        return End::Zeros;
+    }
+    if ones >= 5 {
+        return End::Ones;
+    }
+    End::Neither
+}

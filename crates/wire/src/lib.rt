@@ -1,0 +1,111 @@
+// EP header and TP header: numbers to bytes, and back from any maker's bytes.
+ghost use mathlib.Core.Path.{_≡_};
+ghost use Rattle.wire.specs.Wire.{word, header, offsetNumber, tpHeader};
+ghost use Rattle.wire.specs.Reading.{headerIn, readOf, tpNumberIn, tpWordOf, sortOf};
+use golay::Decoded;
+
+pub struct Header {
+    pub content: u8,
+    pub fragment: u8,
+    pub size: usize,
+}
+
+// Six bytes read as an EP header.
+pub enum Read {
+    Beyond,
+    Whole(Header),
+}
+
+// Three bytes read as a TP's Golay word.
+pub enum TpWord {
+    Beyond,
+    Says { low: bool, offset: usize },
+}
+
+pub enum Sort {
+    Fill,
+    Known,
+    Reserved,
+}
+
+fn word_of(n: u16) -> [u8; 3]
+    ensures { λ r. ⌜ r ≡ word n ⌝ }
+{
+    digits::three_of(golay::encode(n))
+}
+
+// An EP header; of content and fragment the bits that it has place for.
+pub fn header_of(content: u8, fragment: u8, size: u16) -> [u8; 6]
+    ensures { λ r. ⌜ r ≡ header content fragment size ⌝ }
+{
+    let a = word_of((content % 16) as u16 * 64 + (fragment % 4) as u16 * 16 + size / 4096 % 16);
+    let b = word_of(size % 4096);
+    [a[0], a[1], a[2], b[0], b[1], b[2]]
+}
+
+fn offset_number(low: bool, offset: u16) -> u16
+    ensures { λ r. ⌜ r ≡ offsetNumber low offset ⌝ }
+{
+    if low {
+        return 2048 + offset % 2048;
+    }
+    offset % 2048
+}
+
+// A TP header; of stream and offset the bits that it has place for.
+pub fn tp_header_of(stream: u8, low: bool, offset: u16) -> [u8; 4]
+    ensures { λ r. ⌜ r ≡ tpHeader stream low offset ⌝ }
+{
+    let w = word_of(offset_number(low, offset));
+    [stream % 16 * 16, w[0], w[1], w[2]]
+}
+
+// The EP header that six bytes, as a number, hold.
+pub fn read_header(bytes: u64) -> Read
+    ensures { λ r. ⌜ r ≡ readOf (headerIn bytes) ⌝ }
+{
+    let Decoded::Word {
+        number: a,
+        flips: _,
+    } = golay::decode((bytes / 0x100_0000 % 0x100_0000) as u32)
+    else {
+        return Read::Beyond;
+    };
+    let Decoded::Word {
+        number: b,
+        flips: _,
+    } = golay::decode((bytes % 0x100_0000) as u32)
+    else {
+        return Read::Beyond;
+    };
+    Read::Whole(Header {
+        content: (a / 64 % 16) as u8,
+        fragment: (a / 16 % 4) as u8,
+        size: (a % 16) as usize * 4096 + b as usize,
+    })
+}
+
+// The low-latency flag and the offset that three bytes, as a number, hold.
+pub fn read_tp_word(bytes: u32) -> TpWord
+    ensures { λ r. ⌜ r ≡ tpWordOf (tpNumberIn bytes) ⌝ }
+{
+    match golay::decode(bytes) {
+        Decoded::Word { number, flips: _ } => TpWord::Says {
+            low: 2048 <= number,
+            offset: (number % 2048) as usize,
+        },
+        Decoded::Beyond => TpWord::Beyond,
+    }
+}
+
+pub fn sort_of(content: u8) -> Sort
+    ensures { λ r. ⌜ r ≡ sortOf content ⌝ }
+{
+    match content {
+        0 => Sort::Fill,
+        1..=6 => Sort::Known,
+        7..=15 => Sort::Reserved,
+        // no header says more than 15
+        _ => Sort::Reserved,
+    }
+}

@@ -1,0 +1,168 @@
+"""Small recordings for the listing program, each with the lines that document 01 asks for."""
+import packer
+from packer import FIRST, LAST, MIDDLE, NO_START, WHOLE, ep
+
+BROKEN = bytes.fromhex("00000F")  # four flips away from every code word nearby
+GAP = None
+
+
+def tp(offset, *parts, low=False, byte=0x00):
+    return packer.tp(byte, low, offset, b"".join(parts))
+
+
+def with_word(one, word):
+    return one[:1] + word + one[4:]
+
+
+def data(length):
+    return bytes(range(0x30, 0x30 + length))
+
+
+def notice(number, kind):
+    return "%d notice %d 0" % (number, kind)
+
+
+# TP length 16: payload of 12 bytes
+LONG = ep(1, WHOLE, data(10))
+LONG_1 = tp(0, LONG[:12])
+LONG_2 = tp(4, LONG[12:], ep(0, WHOLE, b"\xaa\xaa"))
+HEAD = tp(0, ep(1, FIRST, data(6)))
+TAIL = tp(0, ep(1, LAST, data(6)))
+FULL = tp(0, ep(1, WHOLE, data(6)))
+EMPTY_LOW = ep(1, WHOLE, b"")
+CUT_FILL = bytes(5)
+
+SMALL = [
+    ("6, 8, 7, 9 are checked in this order",
+     [with_word(tp(0, bytes(12), byte=0x11), BROKEN)[:15], with_word(tp(0, bytes(12), byte=0x11), BROKEN),
+      with_word(tp(0, bytes(12), byte=0x01), BROKEN), with_word(tp(0, bytes(12)), BROKEN)],
+     [notice(1, 6), notice(2, 8), notice(3, 7), notice(4, 9)]),
+    ("6 and 8 leave the receiver in step",
+     [LONG_1, LONG_2[:15], LONG_2 + b"\0", b"", tp(0, bytes(12), byte=0xF0), LONG_2],
+     [notice(2, 6), notice(3, 6), notice(4, 6), notice(5, 8), "6 ordinary 1 10"]),
+    ("7 loses step", [LONG_1, tp(0, bytes(12), byte=0x02), LONG_2], [notice(2, 7)]),
+    ("9 loses step", [LONG_1, with_word(LONG_2, BROKEN), LONG_2], [notice(2, 9)]),
+    ("reserved bits are ignored",
+     [tp(0, ep(1, WHOLE, data(6), None, 3), byte=0x0C), tp(NO_START, ep(2, WHOLE, data(5), None, 3), b"\0", low=True)],
+     ["1 ordinary 1 6", "2 low 2 5"]),
+    ("fragments are joined", [HEAD, TAIL], ["2 ordinary 1 12"]),
+    ("a told gap drops the held fragments", [HEAD, GAP, TAIL], [notice(2, 14)]),
+    ("a told gap drops the unfinished EP", [LONG_1, GAP, LONG_2], []),
+    ("13 drops the held fragments", [HEAD, tp(6, data(6), ep(1, LAST, b""))], [notice(2, 13), notice(2, 14)]),
+    ("13 comes before what a header finished here would give",
+     [tp(0, ep(0, WHOLE, data(3)), ep(9, WHOLE, b"")[:3]),
+      tp(5, ep(9, WHOLE, b"")[3:], data(2), ep(1, WHOLE, b"x"))],
+     [notice(2, 13), "2 ordinary 1 1"]),
+    ("13 loses the packet that would have finished here",
+     [LONG_1, tp(5, LONG[12:], b"?", ep(2, WHOLE, b"x"))], [notice(2, 13), "2 ordinary 2 1"]),
+    ("13 with 2047 stays out of step, silently", [FULL, tp(NO_START, data(12)), tp(NO_START, data(12)), FULL],
+     ["1 ordinary 1 6", notice(2, 13), "4 ordinary 1 6"]),
+    ("an EP that ends with the payload foretells no start",
+     [tp(0, ep(2, WHOLE, data(18))[:12]), tp(NO_START, ep(2, WHOLE, data(18))[12:]), FULL],
+     ["2 ordinary 2 18", "3 ordinary 1 6"]),
+    ("between two EPs, a low-latency part that ends at P leaves no start",
+     [FULL, tp(NO_START, ep(2, WHOLE, data(5)), b"\0", low=True), FULL],
+     ["1 ordinary 1 6", "2 low 2 5", "3 ordinary 1 6"]),
+    ("between two EPs, the next begins right after the low-latency part",
+     [FULL, tp(7, EMPTY_LOW, b"\0", CUT_FILL, low=True), tp(1, b"\0", ep(4, WHOLE, data(5)))],
+     ["1 ordinary 1 6", "2 low 1 0", "3 ordinary 4 5"]),
+    ("an offset not counted from the payload's first byte is 13",
+     [tp(0, ep(1, WHOLE, data(7))[:12]), tp(1, EMPTY_LOW, b"\0", data(1), bytes(4), low=True)],
+     ["2 low 1 0", notice(2, 10)]),
+    ("out of step, everything before the offset is passed over", [tp(5, data(5), ep(1, WHOLE, b"x"))], ["1 ordinary 1 1"]),
+    ("10: offset P, beyond P, and inside the low-latency part",
+     [tp(12, bytes(12)), tp(2046, bytes(12)), tp(6, EMPTY_LOW, b"\0", CUT_FILL, low=True),
+      tp(7, EMPTY_LOW, b"\0", CUT_FILL, low=True)],
+     [notice(1, 10), notice(2, 10), "3 low 1 0", notice(3, 10), "4 low 1 0"]),
+    ("10 loses step", [HEAD, tp(12, bytes(12)), TAIL], [notice(2, 10), notice(3, 14)]),
+    ("11: header, length, end byte, fewer than 7 bytes",
+     [tp(NO_START, BROKEN, bytes(9), low=True), tp(NO_START, ep(1, WHOLE, data(6), 6), low=True),
+      tp(NO_START, ep(1, WHOLE, data(5)), b"\x0f", low=True),
+      tp(7, EMPTY_LOW, b"\xff", CUT_FILL, low=True), tp(NO_START, ep(1, WHOLE, data(5)), b"\0", low=True)],
+     [notice(1, 11), notice(2, 11), notice(3, 11), "4 low 1 0", notice(4, 11), "5 low 1 5"]),
+    ("11 loses step and drops the rest",
+     [HEAD, tp(0, EMPTY_LOW, b"\x0f", CUT_FILL, low=True), TAIL], [notice(2, 11), notice(3, 14)]),
+    ("an LLEP that gets 11 gets no 16", [tp(7, ep(9, FIRST, b""), b"\xf0", CUT_FILL, low=True)], [notice(1, 11)]),
+    ("12 on a header begun here drops the rest", [tp(0, BROKEN, bytes(3), bytes(6)), FULL], [notice(1, 12), "2 ordinary 1 6"]),
+    ("12 on a header begun earlier resumes at the offset, even inside its bytes",
+     [tp(0, ep(0, WHOLE, data(5)), BROKEN[:1]), tp(2, BROKEN[1:], ep(1, WHOLE, data(4)))],
+     [notice(2, 12), "2 ordinary 1 4"]),
+    ("12 on a header begun earlier, with 2047",
+     [tp(0, ep(0, WHOLE, data(5)), BROKEN[:1]), tp(NO_START, BROKEN[1:], bytes(10)), FULL],
+     [notice(2, 12), "3 ordinary 1 6"]),
+    ("a cut header that is still not whole foretells no start",
+     [tp(0, ep(0, WHOLE, data(4)), ep(3, WHOLE, data(9))[:2]),
+      tp(NO_START, ep(1, WHOLE, data(4)), b"\0", ep(3, WHOLE, data(9))[2:3], low=True),
+      tp(NO_START, ep(3, WHOLE, data(9))[3:]), FULL],
+     ["2 low 1 4", "3 ordinary 3 9", "4 ordinary 1 6"]),
+    ("a cut header is judged when it is whole, not earlier",
+     [tp(0, ep(0, WHOLE, data(2)), BROKEN, b"\0"),
+      tp(NO_START, ep(1, WHOLE, data(4)), b"\0", b"\0", low=True), tp(1, b"\0", bytes(6), bytes(5))],
+     ["2 low 1 4", notice(3, 12)]),
+    ("an empty packet whose header ends the payload is handed out here",
+     [tp(0, ep(0, WHOLE, b""), ep(5, WHOLE, b""))], ["1 ordinary 5 0"]),
+    ("fill with a flag and nothing held is silent", [tp(0, ep(0, LAST, data(6))), tp(0, ep(0, MIDDLE, data(6)))], []),
+]
+
+# TP length 40: payload of 36 bytes
+MEDIUM = [
+    ("16 for an LLEP with a flag or a reserved content, not for fill",
+     [tp(31, ep(1, FIRST, b"a"), b"\xff", ep(9, WHOLE, b""), b"\xff", ep(0, LAST, b"zz"), b"\xff",
+         ep(9, MIDDLE, b""), b"\0", CUT_FILL, low=True)],
+     [notice(1, 16)] * 3),
+    ("end bytes with three flips",
+     [tp(16, ep(1, WHOLE, b"a"), b"\x1f", ep(2, WHOLE, b"b"), b"\x07", ep(0, WHOLE, data(14)), low=True)],
+     ["1 low 1 1", "1 low 2 1"]),
+    ("LLEPs never touch held fragments",
+     [tp(8, ep(1, WHOLE, b"a"), b"\0", ep(2, FIRST, data(22)), low=True),
+      tp(8, ep(2, WHOLE, b"b"), b"\0", ep(2, LAST, data(22)), low=True)],
+     ["1 low 1 1", "2 low 2 1", "2 ordinary 2 44"]),
+    ("fill breaks a held series, whatever its flag",
+     [tp(0, ep(1, FIRST, data(4)), ep(0, MIDDLE, data(4)), ep(1, LAST, data(10)))], [notice(1, 14)] * 2),
+    ("14 then 16, 14 then a packet, a middle of reserved content",
+     [tp(0, ep(1, FIRST, b""), ep(9, WHOLE, b""), ep(2, FIRST, b"x"), ep(3, WHOLE, b"y"), ep(9, MIDDLE, b""), bytes(4))],
+     [notice(1, 14), notice(1, 16), notice(1, 14), "1 ordinary 3 1", notice(1, 14)]),
+    ("14 drops a series of another content, and a first starts a new one",
+     [tp(0, ep(1, FIRST, b""), ep(2, MIDDLE, b""), ep(1, LAST, b""), ep(2, FIRST, b""), ep(2, FIRST, b""), ep(2, LAST, b""))],
+     [notice(1, 14)] * 3 + ["1 ordinary 2 0"]),
+    ("a middle and a last without a first", [tp(0, ep(1, MIDDLE, data(12)), ep(1, LAST, data(12)))], [notice(1, 14)] * 2),
+    ("15 above the room", [tp(0, ep(1, WHOLE, data(30), 32769))], [notice(1, 15)]),
+    ("no 15 at the room's length", [tp(0, ep(1, WHOLE, data(30), 32768))], []),
+    ("15 counts the held bytes", [tp(0, ep(1, FIRST, b"x"), ep(1, MIDDLE, data(23), 32768))], [notice(1, 15)]),
+    ("held bytes up to the room's length",
+     [tp(0, ep(1, FIRST, b"x"), ep(1, MIDDLE, data(23), 32767))], []),
+    ("after 14 no held bytes are counted for 15", [tp(0, ep(1, FIRST, data(20)), ep(1, FIRST, data(4), 32760))], [notice(1, 14)]),
+    ("14 then 15", [tp(0, ep(1, FIRST, b""), ep(1, WHOLE, data(24), 40000))], [notice(1, 14), notice(1, 15)]),
+    ("after 16 no 15 follows", [tp(0, ep(9, WHOLE, data(30), 40000))], [notice(1, 16)]),
+    ("a middle passed over by 14 gets no 15", [tp(0, ep(1, MIDDLE, data(30), 40000))], [notice(1, 14)]),
+    ("fill is never too long", [tp(0, ep(0, WHOLE, data(30), 40000))], []),
+    ("EPs passed over foretell like any other",
+     [tp(0, ep(9, WHOLE, data(40))[:36]), tp(10, ep(9, WHOLE, data(40))[36:], ep(1, WHOLE, data(20)))],
+     [notice(1, 16), "2 ordinary 1 20"]),
+]
+
+
+def oversized():
+    """15 drops the series; each later piece gives its own 14."""
+    maker = packer.Sender(2051, 0, 1, 0, 0)
+    for flag, size in ((FIRST, 30000), (MIDDLE, 2769), (LAST, 1)):
+        maker.put_raw("ordinary", ep(1, flag, bytes(size)))
+    while maker.queue["ordinary"]:
+        maker.draw()
+    return "an oversized packet", maker.tps, [notice(15, 15), notice(17, 14)]
+
+
+GROUPS = [(16, SMALL), (40, MEDIUM), (2051, [oversized()])]
+
+
+def joined(group):
+    """All cases of a group as one list of TPs with gaps between, and the lines expected of it."""
+    stretch, lines = [], []
+    count = 0
+    for _, tps, expected in group:
+        stretch += [GAP] + list(tps)
+        for line in expected:
+            number, rest = line.split(" ", 1)
+            lines.append("%d %s" % (int(number) + count, rest))
+        count += sum(one is not GAP for one in tps)
+    return stretch, lines

@@ -1,0 +1,213 @@
+"""Tests of the second program by itself: document 01's examples, the appendix's tables, small cases,
+the packer's reading of the sender, and round trips under damage."""
+import cases
+import downlink
+import inputs
+import packer
+
+HEADER = "tp what content bytes"
+
+
+def digest(data):
+    value = 0
+    for byte in data:
+        value = (value * 65599 + byte) % 4294967291
+    return value
+
+
+def hexed(text):
+    return bytes.fromhex(text)
+
+
+class Failure(Exception):
+    pass
+
+
+def same(what, got, wanted):
+    if got != wanted:
+        raise Failure("%s\n  got    %s\n  wanted %s" % (what, got, wanted))
+
+
+# ---- document 01's examples ----
+
+def examples_of_words(second):
+    """1 to 3."""
+    asked = ["encode 000", "encode 001", "encode 7FF", "encode FFF", "decode 000007", "decode 00000F",
+             "decode 7FF38D", "end 07", "end 0F", "end 1F"]
+    wanted = ["000000", "0018EB", "7FF38A", "FFFFFF", "000 3", "beyond repair", "7FF 3", "00",
+              "beyond repair", "FF"]
+    same("examples 1 to 3", second("words", "\n".join(asked).encode()).decode().split("\n")[:-1], wanted)
+
+
+def drawn(run, records, lines):
+    stream = run("send", b"".join(map(records.encode_line, lines)))
+    return [part[8:] for part in records.split(stream)[0][1:]]
+
+
+def examples_of_sending(run, records):
+    """4, 6, 7 and 8."""
+    first = drawn(run, records, ["setup 19 0 2", "ordinary 1 010203", "draw"])
+    same("example 4", first[0][4:], hexed("050EFE 00293E 0102 070833 0018EB 03"))
+    first = drawn(run, records, ["setup 16 0 65535", "low 1 1122", "ordinary 4 33", "draw 2"])
+    same("example 6", first, [hexed("00 80 99 58 04 0D 99 00 29 3E 11 22 00 10 07 B4"),
+                              hexed("00 00 4A 97 00 18 EB 33 00 00 00 00 29 3E AA AA")])
+    first = drawn(run, records, ["setup 16 0 65535", "ordinary 1 1122", "draw 2"])
+    same("example 7, first payload's end", first[0][12:], bytes(4))
+    same("example 7", first[1], b"\0" + packer.golay(2) + hexed("00 00 000000 004A97 AA AA AA AA"))
+    first = drawn(run, records, ["setup 16 0 65535", "low 1 0102030405", "low 1 010203040506", "draw 2"])
+    same("example 8", [tp[1] >> 7 for tp in first], [1, 0])
+
+
+def example_listed(run, records):
+    stream = hexed("C707000000000005 00100 0FFFF".replace(" ", ""))
+    for tp in ("00 80 99 58 04 0D 99 00 29 3E 11 22 00 10 07 B4", "00 00 4A 97 00 18 EB 33 00 00 00 00 29 3E AA AA"):
+        stream += records.record(records.TP, 0, hexed(tp))
+    same("example 6, listed", run("list", stream), b"tp what content bytes\n1 low 1 2\n2 ordinary 4 1\n")
+
+
+def examples_of_calls(run):
+    """5 and 8: how many EPs an offer makes shows in the queue that is just long enough."""
+    entries, wanted = [inputs.call(inputs.LIMIT, 64)], ["limit"]
+    for size, parts in ((65535, [(0, 65535)]), (65536, [(1, 65535), (3, 1)]),
+                        (131072, [(1, 65535), (2, 65535), (3, 2)])):
+        queue = b"".join(packer.ep(1, flag, b"d" * length) for flag, length in parts)
+        for short in (1, 0):
+            space = len(queue) - short
+            entries += [inputs.call(inputs.WRITE, 0, 0, data=bytes(64)),
+                        inputs.call(inputs.SENDER, 16, 0, 65535, space, 0),
+                        inputs.call(inputs.ORDINARY, 1, 0, 0, space, 0, b"d" * size)]
+            after = digest(bytes(64)) if short else digest(queue[:64])
+            wanted += ["write", "sender 0 0 0", "ordinary %d %d 0" % (4 if short else 0, after)]
+    entries.append(inputs.call(inputs.ORDINARY, 1, 0, 0, space, 0, b"d" * 131073))
+    wanted.append("ordinary 3 %d 0" % after)
+    entries += [inputs.call(inputs.SENDER, 16, 0, 1, 0, 64), inputs.call(inputs.LOW, 1, 0, 0, 0, 64, b"d" * 5),
+                inputs.call(inputs.LOW, 1, 0, 0, 0, 64, b"d" * 6)]
+    low = digest((packer.ep(1, 0, b"d" * 5) + bytes(64))[:64])
+    wanted += ["sender 0 0 0", "low 0 0 %d" % low, "low 3 0 %d" % low]
+    same("examples 5 and 8", run("calls", b"".join(entries)).decode().splitlines(), wanted)
+
+
+# ---- the appendix, the cases, the packer ----
+
+def golay_tables(second, appendix, stored):
+    same("the appendix's summary and second/vectors.expected", appendix, stored)
+    same("golay.c and the appendix", second("vectors", b""), stored)
+
+
+def recording(records, tp_length, stretch, stream=0, piece=65535):
+    parts = [records.setup(tp_length, stream, piece)]
+    parts += [records.record(records.GAP) if tp is None else records.record(records.TP, 0, tp) for tp in stretch]
+    return parts
+
+
+def listing(run, parts):
+    return run("list", b"".join(parts)).decode().splitlines()
+
+
+def small_cases(run, records, one_by_one):
+    for tp_length, group in cases.GROUPS:
+        if one_by_one:
+            for name, tps, wanted in group:
+                same(name, listing(run, recording(records, tp_length, tps)), [HEADER] + wanted)
+        stretch, wanted = cases.joined(group)
+        same("all cases with TP length %d" % tp_length,
+             listing(run, recording(records, tp_length, stretch)), [HEADER] + wanted)
+
+
+def sent(records, sender, piece):
+    return b"".join([records.setup(sender.tp_length, sender.stream, piece)] +
+                    [records.record(records.TP, 0, tp) for tp in sender.tps])
+
+
+# ---- round trips under damage, listening from every transport packet on ----
+
+def round_trip_script(rng, tp_length, stream, piece, space, most):
+    sender = packer.Sender(tp_length, stream, piece, space, space)
+    low_share = rng.choice((0.1, 0.4))
+    for _ in range(most):
+        while rng.random() < 0.5:
+            size = max(0, inputs.ordinary_size(rng, sender.payload, piece, False)) % 130
+            sender.offer("ordinary", inputs.some_content(rng), inputs.some_bytes(rng, size))
+        while rng.random() < low_share:
+            sender.offer("low", inputs.some_content(rng), inputs.some_bytes(rng, inputs.low_size(rng, sender.payload)))
+        sender.draw()
+    return sender
+
+
+def listen_calls(sender, tps, starts):
+    entries = [inputs.call(inputs.LIMIT, 0)]
+    for start in starts:
+        entries.append(inputs.call(inputs.RECEIVER, sender.tp_length, sender.stream, 131072))
+        for tp in tps[start:]:
+            entries += [inputs.call(inputs.WRITE, 4, 0, data=tp), inputs.call(inputs.ALL, sender.tp_length, 0, 131072)]
+    return b"".join(entries)
+
+
+def heard(text):
+    """For each opening, the finds of its calls as (TP number, words without the buffers' digests)."""
+    runs = []
+    for line in text.splitlines():
+        words = line.split()
+        if words[0] == "receiver":
+            runs.append([])
+            number = -1
+        elif words[0] == "write":
+            number += 1
+        elif words[0] == "next" and words[1] != "none":
+            runs[-1].append((number, words[1:-2]))
+    return runs
+
+
+def check_finds(what, start, finds, wanted):
+    """Only packets that must come, and no notice but 14, where a series had begun earlier."""
+    packets = [(number, words) for number, words in finds if words[0] in ("low", "ordinary")]
+    same("%s, listening from %d" % (what, start), packets, wanted)
+    notices = {words[-1] for _, words in finds} if False else {words[0] for _, words in finds} - {"low", "ordinary"}
+    same("%s, notices from %d" % (what, start), notices - ({"14"} if start else set()), set())
+
+
+def round_trip_by_calls(run, what, sender, tps, starts):
+    runs = heard(run("calls", listen_calls(sender, tps, starts)).decode())
+    for start, finds in zip(starts, runs, strict=True):
+        wanted = [(number - start, [sort, str(content), str(len(data)), str(digest(data))])
+                  for number, sort, content, data in downlink.expected(sender, tps, start)]
+        check_finds(what, start, finds, wanted)
+
+
+def round_trip_by_list(run, records, what, sender, tps, starts):
+    """The programs start afresh after a gap, so one recording holds all starts."""
+    stretch, first = [], []
+    for start in starts:
+        first.append(sum(tp is not None for tp in stretch))
+        stretch += [None] + tps[start:]
+    parts = recording(records, sender.tp_length, stretch, sender.stream)
+    lines = listing(run, parts)
+    same(what + ", header line", lines[0], HEADER)
+    by_start = [[] for _ in starts]
+    for line in lines[1:]:
+        number, sort, content, size = line.split()
+        index = max(i for i, at in enumerate(first) if at < int(number))
+        words = [content] if sort == "notice" else [sort, content, size]
+        by_start[index].append((int(number) - 1 - first[index], words))
+    for start, finds in zip(starts, by_start, strict=True):
+        wanted = [(number - start, [sort, str(content), str(len(data))])
+                  for number, sort, content, data in downlink.expected(sender, tps, start)]
+        check_finds(what, start, finds, wanted)
+    return parts
+
+
+def round_trips(rng, count):
+    """(name, sender, damaged TPs, starts): short ones from every TP on, and one of the longest packets."""
+    for index in range(count):
+        tp_length = rng.choice((16, 16, 17, 18, 20, 33, 64, 200))
+        piece = rng.choice((1, 2, 5, 20, 65535))
+        sender = round_trip_script(rng, tp_length, rng.randrange(16), piece, rng.choice((100, 400, 3000)), 45)
+        yield "round trip %d" % index, sender, downlink.damaged(rng, sender), list(range(45))
+    sender = packer.Sender(2051, 3, 65535, 1 << 20, 1 << 20)
+    for size in (131072, 65536, 65535, 0):
+        sender.offer("ordinary", 3, inputs.some_bytes(rng, size))
+        sender.offer("low", 1, bytes(2040))
+    while sender.queue["ordinary"] or sender.current:
+        sender.draw()
+    tps = downlink.damaged(rng, sender)
+    yield "the longest packets", sender, tps, [0, 1, 65, len(tps) - 1]
