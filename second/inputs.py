@@ -71,63 +71,48 @@ def send_recording(rng, records, count=None):
     tp_length, stream, piece = settings(rng)
     sender = packer.Sender(tp_length, stream, piece, PROGRAM_BUFFER, PROGRAM_BUFFER)
     good = [records.setup(tp_length, stream, piece)]
-    refusals = {}
     for step in send_steps(rng, tp_length, piece):
         if step is None:
             sender.draw()
             good.append(records.record(records.DRAW))
         else:
             sort, content, data = step
-            number = sender.offer(sort, content, data)
-            refusals[number] = refusals.get(number, 0) + 1
+            sender.offer(sort, content, data)
             kind = records.LOW if sort == "low" else records.ORDINARY
             good.append(records.record(kind, content, data))
         if count is not None and len(good) >= count:
             break
-    return good, sender, refusals
+    return good, sender
 
 
 # ---- records that stop a program ----
 
-def bad_record(rng, records, sending):
-    """Bytes that begin with a record that stops the program."""
-    good = records.record(records.ORDINARY, 1, b"abc") if sending else records.record(records.TP, 0, b"abc")
+def bad_records(records, sending):
+    """Bytes that stop the program, each beginning with a record that doesn't follow the rules."""
+    good = records.record(records.ORDINARY, 1, b"abc") if sending else records.record(records.TP, 0, bytes(16))
     foreign = (records.TP, records.GAP) if sending else (records.ORDINARY, records.LOW, records.DRAW)
     empty = records.DRAW if sending else records.GAP
-    first = rng.choice((
-        good[:rng.randrange(1, len(good))],
-        b"\xc7\x08" + good[2:],
-        b"\x07\xc7" + good[2:],
-        rng.randbytes(1) + good,
-        records.setup(16, 0, 1),
-        records.record(rng.choice(foreign)),
-        records.record(rng.choice((6, 7, 128, 255))),
-        records.record(empty, rng.randrange(1, 256)),
-        records.record(empty, 0, b"x"),
-        records.record(good[2], 0 if not sending else 1, bytes(32769)),
-        good[:4] + b"\xff\xff\xff\xff" + good[8:],
-        good[:3] + b"\x01" + good[4:] if not sending else records.record(9, 9, b"9"),
-    ))
-    if len(first) < len(good) and good.startswith(first):
-        return first
-    return first + good + records.record(empty)
+    bad = [b"\xc7\x08" + good[2:], b"\x07\xc7" + good[2:], b"\0" + good, records.setup(16, 0, 1),
+           records.record(empty, 1), records.record(empty, 255), records.record(empty, 0, b"x"),
+           records.record(good[2], good[3], bytes(32769)), good[:4] + b"\xff\xff\xff\xff" + good[8:]]
+    bad += [records.record(kind) for kind in foreign + (6, 7, 128, 255)]
+    if not sending:
+        bad.append(good[:3] + b"\x01" + good[4:])
+    ignored = records.record(empty) + good + records.record(empty)
+    cut = [good[:length] for length in (1, 2, 3, 7, 8, len(good) - 1)]
+    return [one + ignored for one in bad] + cut
 
 
-def bad_start(rng, records):
-    """A recording that has no good setup: nothing is to be printed."""
+def bad_starts(records):
+    """Recordings that have no good setup: nothing is to be printed."""
     good = records.setup(16, 0, 1)
-    first = rng.choice((
-        b"", good[:rng.randrange(len(good))],
-        records.setup(15, 0, 1), records.setup(2052, 0, 1), records.setup(65535, 0, 1),
-        records.setup(0, 0, 1), records.setup(16, 16, 1), records.setup(16, 255, 1),
-        records.setup(16, 0, 0),
-        records.record(records.SETUP, 1, good[8:]), records.record(records.SETUP, 0, good[8:12]),
-        records.record(records.SETUP, 0, good[8:] + b"\0"),
-        records.record(records.DRAW), records.record(records.GAP), rng.randbytes(40),
-    ))
-    if len(first) < len(good):
-        return first
-    return first + good + records.record(records.DRAW)
+    bad = [records.setup(*one) for one in ((15, 0, 1), (2052, 0, 1), (65535, 0, 1), (0, 0, 1), (16, 16, 1),
+                                           (16, 255, 1), (16, 0, 0))]
+    bad += [records.record(records.SETUP, 1, good[8:]), records.record(records.SETUP, 0, good[8:12]),
+            records.record(records.SETUP, 0, good[8:] + b"\0"), records.record(records.DRAW),
+            records.record(records.GAP), bytes(40), b"\xc7\x06" + good[2:]]
+    cut = [good[:length] for length in (0, 1, 7, 8, 12)]
+    return [one + good + records.record(records.DRAW) for one in bad] + cut
 
 
 # ---- streams of another maker ----
@@ -338,6 +323,88 @@ def sender_calls(rng):
             yield call(rng.choice((ALL, ALL, NEXT)), off(rng, tp_length), 0, off(rng, room))
 
 
+def written_round(buffer, size, place, data):
+    """Writes into a queue, round its end."""
+    place %= size
+    yield call(WRITE, buffer, place, data=data[:size - place])
+    if len(data) > size - place:
+        yield call(WRITE, buffer, 0, data=data[size - place:])
+
+
+def flipped(rng, encoded):
+    """A header with one to four flips in one of its words."""
+    one = bytearray(encoded)
+    start = rng.choice((0, 24))
+    for bit in rng.sample(range(start, start + 24), rng.randrange(1, 5)):
+        one[bit // 8] ^= 0x80 >> bit % 8
+    return bytes(one)
+
+
+def other_header(rng, content, length, queued, payload):
+    """The header of a queued EP, changed in one respect; `queued` bytes are left from it on."""
+    return rng.choice((
+        lambda: packer.ep(content, WHOLE, b"", length, rng.randrange(1, 4)),
+        lambda: packer.ep(content, rng.randrange(1, 4), b"", length),
+        lambda: packer.ep(rng.choice((0, 7, 15)), WHOLE, b"", length),
+        lambda: packer.ep(content, WHOLE, b"", max(0, queued - 6 + rng.randrange(-1, 2))),
+        lambda: packer.ep(content, WHOLE, b"", payload - 7 + rng.randrange(-1, 2)),
+        lambda: packer.ep(content, WHOLE, b"", rng.choice((0, length + 1, 65535))),
+        lambda: flipped(rng, packer.ep(content, WHOLE, b"", length)),
+        lambda: packer.ep(content, WHOLE, b"", length),
+    ))()
+
+
+def overwritten_low_calls(rng):
+    """A queued LLEP's header changed where it lies, first or later, and draws after it."""
+    tp_length, size = rng.choice((16, 20, 40)), rng.choice((60, 80))
+    lent = (0, size)
+    yield call(SENDER, tp_length, 1, 1, *lent)
+    head = 0
+    for _ in range(rng.randrange(12)):  # the head moves round the queue
+        length = rng.randrange(6)
+        yield call(LOW, 1, 0, 0, *lent, bytes(length))
+        yield call(DRAW, tp_length, 0, 0, *lent)
+        head += 6 + length
+    lengths = [rng.randrange(6) for _ in range(rng.randrange(1, 5))]
+    for length in lengths:
+        yield call(LOW, 2, 0, 0, *lent, some_bytes(rng, length))
+    victim = rng.choice((0, 0, len(lengths) - 1, rng.randrange(len(lengths))))
+    before = sum(6 + length for length in lengths[:victim])
+    queued = sum(6 + length for length in lengths[victim:])
+    header = other_header(rng, 2, lengths[victim], queued, tp_length - 4)
+    yield from written_round(1, size, head + before, header)
+    for _ in range(3):
+        yield call(DRAW, off(rng, tp_length, 0.2), 0, 0, *lent)
+    yield call(LOW, 3, 0, 0, *lent, b"new")
+    yield call(DRAW, tp_length, 0, 0, *lent)
+
+
+def overwritten_ordinary_calls(rng):
+    """A queued ordinary EP's header changed where it lies, and draws until the queue is empty."""
+    tp_length, size = rng.choice((16, 17, 20, 40)), rng.choice((90, 120))
+    lent = (size, 0)
+    yield call(SENDER, tp_length, 1, 65535, *lent)
+    start = 0
+    for _ in range(rng.randrange(4)):  # EPs that fill their TPs leave no fill behind, and move the head on
+        yield call(ORDINARY, 1, 0, 0, *lent, bytes(tp_length - 10))
+        yield call(DRAW, tp_length, 0, 0, *lent)
+        start += tp_length - 4
+    lengths = [rng.randrange(20) for _ in range(rng.randrange(1, 4))]
+    for length in lengths:
+        yield call(ORDINARY, 2, 0, 0, *lent, some_bytes(rng, length))
+    victim = rng.randrange(len(lengths))
+    before = sum(6 + length for length in lengths[:victim])
+    queued = sum(6 + length for length in lengths[victim:])
+    header = other_header(rng, 2, lengths[victim], queued, tp_length - 4)
+    yield from written_round(0, size, start + before, header)
+    for _ in range(3):
+        yield call(DRAW, tp_length, 0, 0, *lent)
+        if rng.random() < 0.5:
+            yield call(ORDINARY, 3, 0, 0, *lent, b"new")
+    for _ in range(4):
+        yield call(DRAW, tp_length, 0, 0, *lent)
+
+
 def overwriting(rng, queues):
     which = rng.randrange(2)
     place = rng.randrange(queues[which] + 1)
@@ -414,6 +481,11 @@ def long_offers(rng):
     yield call(ORDINARY, 1, 0, 0, queue, 0, bytes(131073))
     yield call(ORDINARY, 0, 0, 0, queue, 0, bytes(131073))
     yield call(ORDINARY, 0, 0, 0, queue + 1, 0, bytes(131073))
+    yield call(SENDER, 16, 0, 1, 50, 5)
+    yield call(ORDINARY, 1, 0, 0, 50, 5, bytes(131073))
+    yield call(LOW, 1, 0, 0, 50, 5, bytes(6))
+    yield call(LOW, 7, 0, 0, 50, 5, bytes(6))
+    yield call(LOW, 1, 0, 0, 50, 5, bytes(5))
 
 
 def call_list(rng):
@@ -422,4 +494,7 @@ def call_list(rng):
         entries += opening_calls(rng)
     for _ in range(rng.randrange(6, 12)):
         entries += rng.choice((sender_calls, receiver_calls))(rng)
+    for _ in range(6):
+        entries += overwritten_low_calls(rng)
+        entries += overwritten_ordinary_calls(rng)
     return entries

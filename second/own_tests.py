@@ -23,9 +23,14 @@ class Failure(Exception):
     pass
 
 
+def shortened(value):
+    text = value.hex() if isinstance(value, bytes) else str(value)
+    return text if len(text) < 1000 else text[:1000] + "..."
+
+
 def same(what, got, wanted):
     if got != wanted:
-        raise Failure("%s\n  got    %s\n  wanted %s" % (what, got, wanted))
+        raise Failure("%s\n  got    %s\n  wanted %s" % (what, shortened(got), shortened(wanted)))
 
 
 # ---- document 01's examples ----
@@ -59,7 +64,7 @@ def examples_of_sending(run, records):
 
 
 def example_listed(run, records):
-    stream = hexed("C707000000000005 00100 0FFFF".replace(" ", ""))
+    stream = hexed("C7 07 00 00 00000005 00 10 00 FF FF")
     for tp in ("00 80 99 58 04 0D 99 00 29 3E 11 22 00 10 07 B4", "00 00 4A 97 00 18 EB 33 00 00 00 00 29 3E AA AA"):
         stream += records.record(records.TP, 0, hexed(tp))
     same("example 6, listed", run("list", stream), b"tp what content bytes\n1 low 1 2\n2 ordinary 4 1\n")
@@ -87,12 +92,7 @@ def examples_of_calls(run):
     same("examples 5 and 8", run("calls", b"".join(entries)).decode().splitlines(), wanted)
 
 
-# ---- the appendix, the cases, the packer ----
-
-def golay_tables(second, appendix, stored):
-    same("the appendix's summary and second/vectors.expected", appendix, stored)
-    same("golay.c and the appendix", second("vectors", b""), stored)
-
+# ---- the cases, the packer, tools/records ----
 
 def recording(records, tp_length, stretch, stream=0, piece=65535):
     parts = [records.setup(tp_length, stream, piece)]
@@ -117,6 +117,10 @@ def small_cases(run, records, one_by_one):
 def sent(records, sender, piece):
     return b"".join([records.setup(sender.tp_length, sender.stream, piece)] +
                     [records.record(records.TP, 0, tp) for tp in sender.tps])
+
+
+def words_and_back(records, stream):
+    same("tools/records, there and back", b"".join(map(records.encode_line, records.lines_of(stream))), stream)
 
 
 # ---- round trips under damage, listening from every transport packet on ----
@@ -162,7 +166,7 @@ def check_finds(what, start, finds, wanted):
     """Only packets that must come, and no notice but 14, where a series had begun earlier."""
     packets = [(number, words) for number, words in finds if words[0] in ("low", "ordinary")]
     same("%s, listening from %d" % (what, start), packets, wanted)
-    notices = {words[-1] for _, words in finds} if False else {words[0] for _, words in finds} - {"low", "ordinary"}
+    notices = {words[0] for _, words in finds} - {"low", "ordinary"}
     same("%s, notices from %d" % (what, start), notices - ({"14"} if start else set()), set())
 
 
