@@ -1,0 +1,71 @@
+-- What is put in two goes is put in one: so a line is put piece by piece. Assumes nothing.
+use Prim.Native.Nat.{ℕ, _+_, _-_, _≤_, _<_, min}
+use mathlib.Core.Path.{_≡_, ap, sym, _∙_}
+use mathlib.Core.List.{List, _++_, append-assoc}
+use native.Mathlib.Omega.{arith}
+use borrow.Author.Tests.{le-leb, lt-leb}
+use lib.ListN.{length, take, drop, length-append, length-drop}
+use lib.Seq.{take-length, length-take-le, take-at, drop-drop, drop-append-add}
+use Rattle.queue.specs.Ring.{copied}
+use Rattle.block.specs.Block.{Block, placed, put}
+
+pub fits : (d : List ℕ) (n : ℕ) (s : List ℕ) → n + length s ≤ length d → put d n s ≡ record { bytes = placed d n s; at = n + length s }
+unfolding put
+fits d n s h = rw (le-leb _ _ h)
+
+pub misfits : (d : List ℕ) (n : ℕ) (s : List ℕ) → length d < n + length s → put d n s ≡ record { bytes = d; at = n }
+unfolding put
+misfits d n s h = rw (lt-leb _ _ h)
+
+pub copies : (d : List ℕ) (n : ℕ) (s : List ℕ) → n + length s ≤ length d → copied d n s ≡ placed d n s
+copies d n s h =
+    let e : min (length s) (length d - n) ≡ length s = omega arith in
+    rw (e, take-length)
+
+-- what is held then
+front : (d : List ℕ) (n : ℕ) (s : List ℕ) → n ≤ length d → length (take n d ++ s) ≡ n + length s
+front d n s h = rw (length-append, length-take-le n d h)
+
+pub length-placed : (d : List ℕ) (n : ℕ) (s : List ℕ) → n + length s ≤ length d → length (placed d n s) ≡ length d
+length-placed d n s h = let k : n ≤ length d = omega arith in rw (length-append, front d n s k, length-drop) (omega arith)
+
+abbrev pub blockOf : List ℕ → ℕ → Block
+blockOf d n = record { bytes = d; at = n }
+
+module _ (d : List ℕ) (n : ℕ) (s t : List ℕ) (h : n + length s + length t ≤ length d) where
+  holds : n ≤ length d
+  holds = omega arith
+
+  taken : take (n + length s) (placed d n s) ≡ take n d ++ s
+  taken = take-at (take n d ++ s) (drop (n + length s) d) (n + length s) (front d n s holds)
+
+  dropped : drop (n + length s + length t) (placed d n s) ≡ drop (n + length s + length t) d
+  dropped =
+      ap (λ (k : ℕ). drop (k + length t) (placed d n s)) (sym (front d n s holds))
+      ∙ drop-append-add (take n d ++ s) (drop (n + length s) d) (length t)
+      ∙ drop-drop (length t) (n + length s) d
+
+  ends : n + length s + length t ≡ n + length (s ++ t)
+  ends = rw length-append (omega arith)
+
+  pub placed-twice : placed (placed d n s) (n + length s) t ≡ placed d n (s ++ t)
+  placed-twice =
+      ap (λ (x : List ℕ). x ++ t ++ drop (n + length s + length t) (placed d n s)) taken
+      ∙ ap (λ (x : List ℕ). take n d ++ s ++ t ++ x) dropped
+      ∙ ap (λ (k : ℕ). take n d ++ s ++ t ++ drop k d) ends
+      ∙ ap (λ (x : List ℕ). x ++ drop (n + length (s ++ t)) d) (append-assoc (take n d) s t)
+
+  pub joined : put (placed d n s) (n + length s) t ≡ put d n (s ++ t)
+  joined =
+      let first : n + length s ≤ length d = omega arith in
+      let whole : n + length s + length t ≤ length (placed d n s) = omega (arith, length-placed d n s first) in
+      let both : n + length (s ++ t) ≤ length d = omega (arith, ends) in
+      fits (placed d n s) (n + length s) t whole
+      ∙ ap (λ (x : List ℕ). blockOf x (n + length s + length t)) placed-twice
+      ∙ ap (blockOf (placed d n (s ++ t))) ends
+      ∙ sym (fits d n (s ++ t) both)
+
+-- one piece after another
+pub then : (d y z s t : List ℕ) (n r q : ℕ) → n + length s + length t ≤ length d → blockOf y r ≡ put d n s → blockOf z q ≡ put y r t → blockOf z q ≡ put d n (s ++ t)
+then d y z s t n r q h first second =
+    second ∙ ap (λ (k : Block). put (k .bytes) (k .at) t) (first ∙ fits d n s (omega arith)) ∙ joined d n s t h

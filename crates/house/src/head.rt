@@ -1,0 +1,149 @@
+// A record's head: judged as it was read, and made to be written.
+ghost use mathlib.Core.Path.{_≡_};
+ghost use Rattle.house.specs.Records.{lengthOf, headOf, kindOf, contentOf, isRead, contentFits, lengthFits, recordOf, ruled, judgedOf};
+use crate::Fault;
+use crate::Judged;
+use crate::Place;
+use crate::Record;
+
+// How many bytes of data a record has.
+pub fn length_of(said: Record) -> usize
+    ensures { λ r. ⌜ r ≡ lengthOf said ⌝ }
+{
+    match said {
+        Record::Setup => 5,
+        Record::Ordinary { content: _, length } => length,
+        Record::Low { content: _, length } => length,
+        Record::Draw => 0,
+        Record::Packet { length } => length,
+        Record::Gap => 0,
+    }
+}
+
+fn kind_of(said: Record) -> u8
+    ensures { λ r. ⌜ r ≡ kindOf said ⌝ }
+{
+    match said {
+        Record::Setup => 0,
+        Record::Ordinary {
+            content: _,
+            length: _,
+        } => 1,
+        Record::Low {
+            content: _,
+            length: _,
+        } => 2,
+        Record::Draw => 3,
+        Record::Packet { length: _ } => 4,
+        Record::Gap => 5,
+    }
+}
+
+fn content_of(said: Record) -> u8
+    ensures { λ r. ⌜ r ≡ contentOf said ⌝ }
+{
+    match said {
+        Record::Setup => 0,
+        Record::Ordinary { content, length: _ } => content,
+        Record::Low { content, length: _ } => content,
+        Record::Draw => 0,
+        Record::Packet { length: _ } => 0,
+        Record::Gap => 0,
+    }
+}
+
+// The head of a record.
+pub fn head_of(said: Record) -> [u8; 8]
+    ensures { λ r. ⌜ r ≡ headOf said ⌝ }
+{
+    let n = digits::four_of(length_of(said));
+    [
+        0xC7,
+        0x07,
+        kind_of(said),
+        content_of(said),
+        n[0],
+        n[1],
+        n[2],
+        n[3],
+    ]
+}
+
+fn is_read(place: Place, kind: u8) -> bool
+    ensures { λ r. ⌜ r ≡ isRead place kind ⌝ }
+{
+    match place {
+        Place::Start => kind == 0,
+        Place::Sending => match kind {
+            1..=3 => true,
+            _ => false,
+        },
+        Place::Listing => match kind {
+            4..=5 => true,
+            _ => false,
+        },
+    }
+}
+
+fn content_fits(kind: u8, content: u8) -> bool
+    ensures { λ r. ⌜ r ≡ contentFits kind content ⌝ }
+{
+    if kind == 1 {
+        return true;
+    }
+    if kind == 2 {
+        return true;
+    }
+    content == 0
+}
+
+fn length_fits(kind: u8, length: usize) -> bool
+    ensures { λ r. ⌜ r ≡ lengthFits kind length ⌝ }
+{
+    match kind {
+        0 => length == 5,
+        3 => length == 0,
+        5 => length == 0,
+        _ => length <= 32768,
+    }
+}
+
+fn record_of(kind: u8, content: u8, length: usize) -> Record
+    ensures { λ r. ⌜ r ≡ recordOf kind content length ⌝ }
+{
+    match kind {
+        0 => Record::Setup,
+        1 => Record::Ordinary { content, length },
+        2 => Record::Low { content, length },
+        3 => Record::Draw,
+        4 => Record::Packet { length },
+        _ => Record::Gap,
+    }
+}
+
+fn rule(place: Place, kind: u8, content: u8, length: usize) -> Judged
+    ensures { λ r. ⌜ r ≡ ruled place kind content length ⌝ }
+{
+    if !is_read(place, kind) {
+        return Judged::Bad(Fault::Kind);
+    }
+    if !content_fits(kind, content) {
+        return Judged::Bad(Fault::Content);
+    }
+    if !length_fits(kind, length) {
+        return Judged::Bad(Fault::Length);
+    }
+    Judged::Good(record_of(kind, content, length))
+}
+
+// Judges a head at a place.
+pub fn judge(place: Place, head: &[u8; 8]) -> Judged
+    ensures { λ r. ⌜ r ≡ judgedOf place (now (head .entry)) ⌝ }
+{
+    let mark = digits::from_two(head[0], head[1]);
+    if mark != 0xC707 {
+        return Judged::Bad(Fault::Mark);
+    }
+    let length = digits::from_four(head[4], head[5], head[6], head[7]);
+    rule(place, head[2], head[3], length)
+}

@@ -1,0 +1,54 @@
+// House records (document 01, 'Records and programs'): a head of eight bytes, then the data.
+mod head;
+mod setups;
+
+pub use head::head_of;
+pub use head::judge;
+pub use head::length_of;
+pub use setups::read_setup;
+
+// What a good head says; the data are as long as it says.
+pub enum Record {
+    Setup,
+    Ordinary { content: u8, length: usize },
+    Low { content: u8, length: usize },
+    Draw,
+    Packet { length: usize },
+    Gap,
+}
+
+// Who reads, and where: the first record of either program, or a later one of one of them.
+pub enum Place {
+    Start,
+    Sending,
+    Listing,
+}
+
+// What is wrong with a record.
+pub enum Fault {
+    Mark,
+    Kind,
+    Content,
+    Length,
+    Short,
+    Limits,
+}
+
+// A bad head gives none of its numbers.
+pub enum Judged {
+    Good(Record),
+    Bad(Fault),
+}
+
+// What a setup record says: the TP length, the stream, F.
+pub struct Setup {
+    pub tp: usize,
+    pub stream: u8,
+    pub piece: usize,
+}
+
+// Settings outside the limits give none of their numbers.
+pub enum Settings {
+    Within(Setup),
+    Outside,
+}

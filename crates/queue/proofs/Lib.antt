@@ -1,0 +1,4 @@
+pub mod Copies
+pub mod Runs
+pub mod Puts
+pub mod Takes

@@ -1,0 +1,186 @@
+// A queue of bytes in a lent buffer, as a ring; and the one loop that copies.
+ghost use mathlib.Core.Path.{_≡_};
+ghost use Prim.Native.Nat.{_+_, _-_, _≤_, _<_, min};
+ghost use lib.ListN.{length, take, getD, replicate};
+ghost use lib.Seq.{paste};
+ghost use Rattle.queue.specs.Ring.{copied, held, Kept, kept, room, written, pushed, off, place, popped};
+
+pub struct Ring {
+    pub head: usize,
+    pub len: usize,
+}
+
+// How many of n bytes there is place for behind index at.
+fn clamped(size: usize, at: usize, n: usize) -> usize
+    ensures { λ r. ⌜ r ≡ min n (size - at) ⌝ }
+{
+    if size <= at {
+        return 0;
+    }
+    if n < size - at {
+        return n;
+    }
+    size - at
+}
+
+// Copies src into dst from index at on, as much as there is place for.
+pub fn copy_at(dst: &mut [u8], at: usize, src: &[u8])
+    ensures { λ _. ⌜ now (dst .exit) ≡ copied (now (dst .entry)) at (now (src .entry)) ⌝ }
+{
+    let n = clamped(dst.len(), at, src.len());
+    let mut i = 0;
+    while i < n {
+        dst[at + i] = src[i];
+        i += 1;
+    }
+}
+
+// Writes v to n bytes of dst from index at on, as many as there is place for.
+pub fn fill_at(dst: &mut [u8], at: usize, n: usize, v: u8)
+    ensures { λ _. ⌜ now (dst .exit) ≡ copied (now (dst .entry)) at (replicate n v) ⌝ }
+{
+    let k = clamped(dst.len(), at, n);
+    let mut i = 0;
+    while i < k {
+        dst[at + i] = v;
+        i += 1;
+    }
+}
+
+fn is_kept(cap: usize, q: Ring) -> bool
+    ensures { λ r. ⌜ r ≡ kept cap q ⌝ }
+{
+    if cap < q.head {
+        return false;
+    }
+    q.len <= cap
+}
+
+fn has_room(cap: usize, q: Ring, n: usize) -> bool
+    ensures { λ r. ⌜ r ≡ room cap q n ⌝ }
+{
+    if !is_kept(cap, q) {
+        return false;
+    }
+    n <= cap - q.len
+}
+
+// Writes src behind what the ring holds, in at most two runs.
+fn write(buf: &mut [u8], q: Ring, src: &[u8])
+    requires { ⌜ Kept (now buf) q ⌝ }
+    requires { ⌜ length (now src) ≤ length (now buf) - q .len ⌝ }
+    ensures { λ _. ⌜ now (buf .exit) ≡ written (now (buf .entry)) q (now (src .entry)) ⌝ }
+{
+    let cap = buf.len();
+    let end = q.head + q.len;
+    if cap <= end {
+        copy_at(buf, end - cap, src);
+        return;
+    }
+    let first = cap - end;
+    if src.len() <= first {
+        copy_at(buf, end, src);
+        return;
+    }
+    copy_at(buf, end, &src[0..first]);
+    copy_at(buf, 0, &src[first..]);
+}
+
+// Puts src behind what the ring holds, if it fits.
+pub fn push(buf: &mut [u8], q: Ring, src: &[u8]) -> Ring
+    ensures { λ r. ⌜ record { ring = r; bytes = now (buf .exit) } ≡ pushed (now (buf .entry)) q (now (src .entry)) ⌝ }
+{
+    if !has_room(buf.len(), q, src.len()) {
+        return q;
+    }
+    write(buf, q, src);
+    Ring {
+        head: q.head,
+        len: q.len + src.len(),
+    }
+}
+
+// Reads the first bytes of what the ring holds, as many as dst has, in at most two runs.
+fn read(buf: &[u8], q: Ring, dst: &mut [u8])
+    requires { ⌜ Kept (now buf) q ⌝ }
+    requires { ⌜ length (now dst) ≤ q .len ⌝ }
+    ensures { λ _. ⌜ now (dst .exit) ≡ take (length (now (dst .entry))) (held (now (buf .entry)) q) ⌝ }
+{
+    let head = q.head;
+    let cap = buf.len();
+    let n = dst.len();
+    let first = cap - head;
+    if n <= first {
+        let end = head + n;
+        copy_at(dst, 0, &buf[head..end]);
+        return;
+    }
+    let left = n - first;
+    copy_at(dst, 0, &buf[head..cap]);
+    copy_at(dst, first, &buf[0..left]);
+}
+
+fn has_place(size: usize, at: usize, n: usize) -> bool
+    ensures { λ r. ⌜ r ≡ place size at n ⌝ }
+{
+    if size < at {
+        return false;
+    }
+    n <= size - at
+}
+
+// The ring of a buffer of cap bytes, once n bytes are off.
+fn off_by(cap: usize, q: Ring, n: usize) -> Ring
+    requires { ⌜ (q .head ≤ cap) × (n ≤ cap) × (n ≤ q .len) ⌝ }
+    ensures { λ r. ⌜ r ≡ off cap q n ⌝ }
+{
+    let left = q.len - n;
+    if n <= cap - q.head {
+        return Ring {
+            head: q.head + n,
+            len: left,
+        };
+    }
+    Ring {
+        head: n - (cap - q.head),
+        len: left,
+    }
+}
+
+// Takes n bytes off what the ring holds into dst from index at on, if they are held and there is place.
+pub fn pop_into(buf: &[u8], q: Ring, dst: &mut [u8], at: usize, n: usize) -> Ring
+    ensures { λ r. ⌜ record { ring = r; bytes = now (dst .exit) } ≡ popped (now (buf .entry)) q (now (dst .entry)) at n ⌝ }
+{
+    if !is_kept(buf.len(), q) {
+        return q;
+    }
+    if q.len < n {
+        return q;
+    }
+    if !has_place(dst.len(), at, n) {
+        return q;
+    }
+    let end = at + n;
+    read(buf, q, &mut dst[at..end]);
+    off_by(buf.len(), q, n)
+}
+
+// Byte i of what the ring holds; 0 if there is none.
+pub fn byte_at(buf: &[u8], q: Ring, i: usize) -> u8
+    ensures { λ r. ⌜ r ≡ getD (held (now (buf .entry)) q) i 0 ⌝ }
+{
+    if q.len <= i {
+        return 0;
+    }
+    let cap = buf.len();
+    let first = clamped(cap, q.head, cap);
+    if i < first {
+        let at = q.head + i;
+        return buf[at];
+    }
+    let at = i - first;
+    if clamped(cap, 0, q.head) <= at {
+        return 0;
+    }
+    buf[at]
+}

@@ -1,0 +1,179 @@
+-- Reading an EP's data and a header on, in runs, and the loop over turns. Assumes nothing.
+use mathlib.Core.Path.{ap, refl, sym, _∙_, _≡_}
+use mathlib.Core.Bool.{Bool, cond, false, true}
+use mathlib.Core.Option.{none}
+use mathlib.Core.List.{List, [], append-nil, _++_, _∷_}
+use Prim.Native.Nat.{suc, zero, ℕ, _+_, _-_, _<_, _^_, _≤_}
+use native.Mathlib.Omega.{arith}
+use lib.Dec.{ltb}
+use lib.ListN.{drop, length, length-drop, take, take-append-drop}
+use lib.Seq.{drop-drop, getD-drop, length-take-le, sets-eq, take-all, take-paste}
+use borrow.Author.Tests.{ltb-false, ltb-true}
+use Rattle.digits.specs.Digits.{digits, number}
+use Rattle.wire.specs.Reading.{headerIn, headerOf}
+use Rattle.wire.specs.declared.Header.{Header}
+use Rattle.receiver.specs.declared.walk.Answer.{Answer}
+use Rattle.receiver.specs.declared.walk.Gain.the-variants.{Nothing}
+use Rattle.receiver.specs.declared.walk.Kept.{Kept}
+use Rattle.receiver.specs.declared.walk.Kept.the-variants.{Empty, Of}
+use Rattle.receiver.specs.declared.walk.Phase.{Phase}
+use Rattle.receiver.specs.declared.walk.Phase.the-variants.{Body, Head, Lost}
+use Rattle.receiver.specs.declared.walk.Turn.{Turn}
+use Rattle.receiver.specs.declared.walk.Turn.the-variants.{More, Stop}
+use Rattle.receiver.specs.declared.walk.Walk.{Walk}
+use Rattle.receiver.specs.Frame.{ending, whole, within}
+use Rattle.receiver.specs.Join.{Held, held}
+use Rattle.receiver.specs.Kind.{kindOf}
+use Rattle.receiver.specs.Low.{wire}
+use Rattle.receiver.specs.Pull.{dry, meet, pull}
+use Rattle.receiver.specs.State.{Fine, Roomy, Sound, headed, heldOf, pullOf}
+use Rattle.receiver.specs.Turns.{Ends, On, Stored, Turned, finishOf, grownBy, headerTurn, pasted, shown, stops, walkAt, wholeOf}
+use Rattle.receiver.proofs.Heading.{Bytes, digits-number, heads, heads-whole, length-digits, number-append, number-digits, number-small, on-with}
+use Rattle.receiver.proofs.Run.{grows, grows-free, grows-held, lost-run, puts, puts-free, puts-held, run}
+use Rattle.receiver.proofs.Turning.{finish-by, whole-turned}
+
+-- n bytes into the room
+kept-held : (cap n : ℕ) (k : Kept) (m x : List ℕ) → length m ≡ cap → Roomy cap k n → n ≤ length x
+    → heldOf (grownBy n k) (pasted k m x n) ≡ grows wire cap (heldOf k m) (take n x)
+kept-held cap n Empty m x f r l = sym (grows-free wire cap (take n x))
+kept-held cap n (Of c a) m x f r l = ap (held c) (take-paste m a x n (omega arith) l) ∙ sym (grows-held wire cap c (take a m) (take n x))
+
+kept-room : (cap n : ℕ) (k : Kept) (m x : List ℕ) → length m ≡ cap → Roomy cap k n → n ≤ length x
+    → pasted k m x n ≡ puts wire cap (heldOf k m) (take n x) m
+kept-room cap n Empty m x f r l = sym (puts-free wire cap (take n x) m)
+kept-room cap n (Of c a) m x f r l =
+    let t = length-take-le n x l in
+    let e = sets-eq (take n x) m a (omega arith) in
+    sym (puts-held wire cap c a (take a m) (take n x) m (sym (length-take-le a m (omega arith))) ∙ rw t at e)
+
+grown-room : (cap n z : ℕ) (k : Kept) → Roomy cap k (n + z) → Roomy cap (grownBy n k) z
+grown-room cap n z Empty r = r
+grown-room cap n z (Of c a) r = omega arith
+
+pub decoded : (n w : ℕ) (ds : List ℕ) → w < 256 ^ n → headerOf (digits n w ++ ds) ≡ headerIn (number w ds)
+unfolding headerOf
+decoded n w ds h = ap headerIn (number-append 0 (digits n w) ds ∙ ap (λ (x : ℕ). number x ds) (number-digits n w h))
+
+pub fewer : (cap n z : ℕ) (k : Kept) → Roomy cap k z → n ≤ z → Roomy cap k n
+fewer cap n z Empty r l = r
+fewer cap n z (Of c a) r l = omega arith
+
+module _ (cap : ℕ) where
+  -- in an EP's data at the end of the bytes
+  data-ends : (k j : ℕ) (h : Header) (s : Held wire) (m : List ℕ) → 0 < k
+      → pull wire cap (within wire h k) j (meet wire cap s m (ending wire h k)) []
+      ≡ record { find = none; at = j; frame = within wire h k; todo = ending wire h k; held = s; room = m }
+  data-ends zero j h s m p = absurd (omega arith)
+  data-ends (suc k) j h s m p = refl
+
+  module _ (tp m : List ℕ) (full : length m ≡ cap) (at left : ℕ) (h : Header) (k : Kept) (s : Sound cap (length tp) (walkAt at (Body h left) k)) where
+    pub body-short : (k′ : Kept) (m′ : List ℕ) → length tp - at < left → Stored tp at (length tp - at) k m k′ m′
+        → Turned cap (walkAt at (Body h left) k) tp m (stops (at + (length tp - at)) (Body h (left - (length tp - at))) k′ Nothing) m′
+    unfolding Turned pullOf shown
+    body-short k′ m′ l w =
+        let r = length tp - at in
+        let p = s .at in
+        let v : length (drop at tp) ≡ r = length-drop at tp in
+        let q : Roomy cap k left = s .phase in
+        let q′ : Roomy cap k r = fewer cap r left k q (omega arith) in
+        let t : take r (drop at tp) ≡ drop at tp = take-all r (drop at tp) (omega arith) in
+        let a = kept-held cap r k m (drop at tp) full q′ (omega arith) in
+        let b = kept-room cap r k m (drop at tp) full q′ (omega arith) in
+        let x = run wire cap h (left - r) (at + r) left at (heldOf k m) m (drop at tp) [] (omega arith) (omega arith) in
+        let y = data-ends (left - r) (at + r) h (grows wire cap (heldOf k m) (drop at tp)) (puts wire cap (heldOf k m) (drop at tp) m) (omega arith) in
+        rw (w .kept, w .room) (record {
+          same = rw (a, b, t) (sym (rw (append-nil (drop at tp)) at x ∙ y));
+          sound = record { at = omega arith; phase = grown-room cap r (left - r) k (fewer cap (r + (left - r)) left k q (omega arith)) };
+          gained = omega arith;
+        })
+
+    pub body-long : (k′ : Kept) (m′ : List ℕ) → left ≤ length tp - at → length m′ ≡ cap → Stored tp at left k m k′ m′
+        → Turned cap (walkAt at (Body h left) k) tp m (finishOf (kindOf h) (at + left) k′) m′
+    unfolding pullOf
+    body-long k′ m′ l full′ w =
+        let p = s .at in
+        let v : length (drop at tp) ≡ length tp - at = length-drop at tp in
+        let q : Roomy cap k left = s .phase in
+        let ds : List ℕ = take left (drop at tp) in
+        let t : length ds ≡ left = length-take-le left (drop at tp) (omega arith) in
+        let a = kept-held cap left k m (drop at tp) full q (omega arith) in
+        let b = kept-room cap left k m (drop at tp) full q (omega arith) in
+        let a′ : heldOf k′ m′ ≡ grows wire cap (heldOf k m) ds = rw (w .kept, w .room) a in
+        let b′ : m′ ≡ puts wire cap (heldOf k m) ds m = w .room ∙ b in
+        let x = run wire cap h 0 (at + left) left at (heldOf k m) m ds (drop left (drop at tp)) (omega arith) (omega arith) in
+        let z : ds ++ drop left (drop at tp) ≡ drop at tp = take-append-drop left (drop at tp) in
+        let y = drop-drop left at tp in
+        let e = rw (z, ← a′, ← b′, y) at x in
+        let q₀ : Roomy cap k (left + 0) = fewer cap (left + 0) left k q (omega arith) in
+        let r : Roomy cap k′ 0 = rw (w .kept) (grown-room cap left 0 k q₀) in
+        finish-by cap tp m′ full′ (kindOf h) (walkAt at (Body h left) k) m (at + left) k′ (omega arith) r (omega arith) (sym e)
+
+  module _ (tp m : List ℕ) (full : length m ≡ cap) (bytes : Bytes tp) where
+    header-by : (b : Bool) (at n w : ℕ) (k : Kept) → at ≤ length tp → Fine cap (Head n w) k → ltb (length tp - at) (6 - n) ≡ b
+        → Turned cap (walkAt at (Head n w) k) tp m
+        (cond b (stops (at + (length tp - at)) (Head (n + (length tp - at)) (number w (take (length tp - at) (drop at tp)))) k Nothing)
+        (wholeOf (at + (6 - n)) (headerIn (number w (take (6 - n) (drop at tp)))) k)) m
+    unfolding Turned pullOf shown
+    header-by true at n w k l f q =
+        let r = length tp - at in
+        let u = ltb-true (length tp - at) (6 - n) q in
+        let v : length (drop at tp) ≡ r = length-drop at tp in
+        let t : take r (drop at tp) ≡ drop at tp = take-all r (drop at tp) (omega arith) in
+        let y : Bytes (drop at tp) = (λ i. rw (getD-drop at tp i 0) (bytes (at + i))) in
+        let d = digits-number n (n + r) w (drop at tp) y (omega arith) in
+        let g = number-small n (n + r) w (drop at tp) y (omega arith) (f .1) in
+        let x = heads cap (heldOf k m) m (digits n w) (drop at tp) [] at (at + r) (omega (arith, length-digits n w)) (omega arith) in
+        record {
+          same = rw (t, d) (sym (rw (append-nil (drop at tp)) at x));
+          sound = record { at = omega arith; phase = rw t (omega arith, g, f .2) };
+          gained = omega arith;
+        }
+    header-by false at n w k l f q =
+        let u = ltb-false (length tp - at) (6 - n) q in
+        let v : length (drop at tp) ≡ length tp - at = length-drop at tp in
+        let ds : List ℕ = take (6 - n) (drop at tp) in
+        let t : length ds ≡ 6 - n = length-take-le (6 - n) (drop at tp) (omega arith) in
+        let z : ds ++ drop (6 - n) (drop at tp) ≡ drop at tp = take-append-drop (6 - n) (drop at tp) in
+        let y = drop-drop (6 - n) at tp in
+        let x = some-heads (digits n w) ds (drop (6 - n) (drop at tp)) at (at + (6 - n)) (omega (arith, length-digits n w)) (omega arith) (omega arith) in
+        let e : headerOf (digits n w ++ ds) ≡ headerIn (number w ds) = decoded n w ds (f .1) in
+        whole-turned cap tp m full (walkAt at (Head n w) k) (at + (6 - n)) (headerIn (number w ds)) k (omega arith) (f .2) (omega arith)
+        (sym (rw (z, e, y) at x))
+      where
+        some-heads : (hs ds bs : List ℕ) (at j : ℕ) → length hs + length ds ≡ 6 → 0 < length ds → j ≡ at + length ds
+            → pull wire cap (headed hs) at (dry (heldOf k m) m) (ds ++ bs) ≡ on-with cap (heldOf k m) m (whole wire (headerOf (hs ++ ds))) j bs
+        some-heads hs [] bs at j l p e = absurd (omega arith)
+        some-heads hs (d ∷ ds) bs at j l p e = heads-whole cap (heldOf k m) m hs d ds bs at j (omega arith) (omega arith)
+
+    pub header-turned : (w : Walk) (n x : ℕ) → Sound cap (length tp) w → w .phase ≡ Head n x
+        → Turned cap w tp m (headerTurn tp (w .at) n x (w .kept)) m
+    unfolding headerTurn
+    header-turned w n x s q =
+        let v : walkAt (w .at) (Head n x) (w .kept) ≡ w = ap (λ (p : Phase). walkAt (w .at) p (w .kept)) (sym q) in
+        let s′ = rw (← v) at s in
+        rw (← v) (header-by (ltb (length tp - w .at) (6 - n)) (w .at) n x (w .kept) (s′ .at) (s′ .phase) refl)
+
+    pub lost-turned : (w : Walk) → Sound cap (length tp) w → w .phase ≡ Lost → Turned cap w tp m (stops (length tp) (w .phase) (w .kept) Nothing) m
+    unfolding Turned pullOf shown
+    lost-turned w s q =
+        let p = s .at in
+        let v : walkAt (w .at) Lost (w .kept) ≡ w = ap (λ (p : Phase). walkAt (w .at) p (w .kept)) (sym q) in
+        let s′ = rw (← v) at s in
+        rw (← v) (record {
+          same = sym (lost-run wire cap (drop (w .at) tp) (w .at) (length tp) (heldOf (w .kept) m) m (omega (arith, length-drop (w .at) tp)));
+          sound = record { at = omega arith; phase = s′ .phase };
+          gained = omega arith;
+        })
+
+-- the loop over turns: from w₀ with the room's bytes m₀ it has come to w and m
+module _ (tp m₀ m m′ : List ℕ) (w₀ w : Walk) (r : Turn) (same-length : length m ≡ length m₀) (t : Turned (length m) w tp m r m′) where
+  turned : Turned (length m₀) w tp m r m′
+  turned = rw same-length at t
+
+  pub turn-on : (x : Walk) → r ≡ More x → On (length m₀) w tp m x m′
+  unfolding Turned
+  turn-on x e = rw e at turned
+
+  pub turn-ends : (a : Answer) → r ≡ Stop a → pullOf (length m₀) w tp m ≡ pullOf (length m₀) w₀ tp m₀ → Ends (length m₀) w₀ tp m₀ a m′
+  unfolding Turned
+  turn-ends a e p = let q : Ends (length m₀) w tp m a m′ = rw e at turned in record { same = q .same ∙ p; sound = q .sound; gained = q .gained }

@@ -1,0 +1,156 @@
+-- One call in its parts: each stage's step gives what the definition of the call says.
+-- Assumes nothing.
+use mathlib.Core.Path.{ap, refl, subst, sym, _∙_, _≡_}
+use mathlib.Core.Bool.{Bool, cond, false, true}
+use mathlib.Core.Option.{none, some}
+use mathlib.Core.List.{List, [], _∷_}
+use Prim.Native.Nat.{suc, zero, ℕ, _+_, _<_, _≤_}
+use native.Mathlib.Omega.{arith}
+use lib.ListN.{drop, length, length-drop, take}
+use lib.Seq.{length-take-le}
+use Rattle.receiver.specs.declared.Find.{Find}
+use Rattle.receiver.specs.declared.Receiver.{Receiver}
+use Rattle.receiver.specs.declared.Stage.{Stage}
+use Rattle.receiver.specs.declared.Stage.the-variants.{Due, Fresh, Low, Plain}
+use Rattle.receiver.specs.declared.walk.Answer.{Answer}
+use Rattle.receiver.specs.declared.walk.Gain.{Gain}
+use Rattle.receiver.specs.declared.walk.Kept.{Kept}
+use Rattle.receiver.specs.declared.walk.Kept.the-variants.{Empty, Of}
+use Rattle.receiver.specs.declared.walk.Phase.{Phase}
+use Rattle.receiver.specs.declared.walk.Phase.the-variants.{Body, Head, Judged, Lost}
+use Rattle.receiver.specs.declared.walk.Walk.{Walk}
+use Rattle.receiver.specs.Call.{Gives, Said, gone, holds, leave, lowly, plainly, saidOf, says, startly, stepped, unchanged, walkTo}
+use Rattle.receiver.specs.Forecast.{dropped, start}
+use Rattle.receiver.specs.Frame.{Frame, lost, step}
+use Rattle.receiver.specs.Join.{Held, free}
+use Rattle.receiver.specs.Low.{wire}
+use Rattle.receiver.specs.Outset.{setOut}
+use Rattle.receiver.specs.Pull.{Met, Pulled, dry, found, meet, pull, reads, upto}
+use Rattle.receiver.specs.State.{Able, Fine, Roomy, Settled, Sound, Staged, frameOf, heldOf, keeps, pullOf, todoOf}
+use Rattle.receiver.specs.Steps.{stepOf, tellOf}
+use Rattle.receiver.specs.Turns.{Gained, shown}
+use Rattle.receiver.proofs.SettingOut.{roomy}
+use Rattle.receiver.specs.declared.Find.the-variants as F
+use Rattle.receiver.specs.declared.low.Lows.the-variants as L
+use Rattle.receiver.specs.declared.walk.Gain.the-variants as G
+
+-- where a call says none, nothing is left to be taken in
+
+module _ (cap : ℕ) where
+  upto-none : (x : Met wire) (f : Frame wire) (at : ℕ) (go : Held wire → List ℕ → Pulled wire)
+      → ((s : Held wire) (m : List ℕ) → go s m .find ≡ none → go s m .todo ≡ []) → upto wire x f at go .find ≡ none → upto wire x f at go .todo ≡ []
+  upto-none (dry s m) f at go q e = q s m e
+  upto-none (found x s m es) f at go q e = cc
+
+  reads-none : (bs : List ℕ) (f : Frame wire) (at : ℕ) (s : Held wire) (m : List ℕ) → reads wire cap bs f at s m .find ≡ none → reads wire cap bs f at s m .todo ≡ []
+  reads-none [] f at s m e = refl
+  reads-none (b ∷ bs) f at s m e =
+      upto-none (meet wire cap s m (step wire f b .1)) (step wire f b .0) (suc at) (λ s′ m′. reads wire cap bs (step wire f b .0) (suc at) s′ m′)
+      (λ s′ m′ q. reads-none bs (step wire f b .0) (suc at) s′ m′ q) e
+
+  pull-none : (f : Frame wire) (at : ℕ) (x : Met wire) (bs : List ℕ) → pull wire cap f at x bs .find ≡ none → pull wire cap f at x bs .todo ≡ []
+  pull-none f at x bs e = upto-none x f at (λ s m. reads wire cap bs f at s m) (λ s m q. reads-none bs f at s m q) e
+
+  pub pullOf-none : (w : Walk) (tp m : List ℕ) → pullOf cap w tp m .find ≡ none → pullOf cap w tp m .todo ≡ []
+  unfolding pullOf
+  pullOf-none w tp m e = pull-none (frameOf (w .phase)) (w .at) (meet wire cap (heldOf (w .kept) m) m (todoOf (w .phase))) (drop (w .at) tp) e
+
+  pub setOut-none : (w : Walk) (n : ℕ) (tp m : List ℕ) → setOut cap w n tp m .find ≡ none → setOut cap w n tp m .todo ≡ []
+  unfolding setOut
+  setOut-none w n tp m e =
+      let t = start wire (frameOf (w .phase)) n (drop (w .at) tp) in
+      pull-none (t .frame) (w .at + t .past) (meet wire cap (heldOf (w .kept) m) m (t .told)) (drop (w .at + t .past) tp) e
+
+settled-of : (cap : ℕ) (p : Phase) (k : Kept) → Fine cap p k → todoOf p ≡ [] → Settled p
+settled-of cap Lost k f e = omega arith
+settled-of cap (Head n w) k f e = (f .0, f .1)
+settled-of cap (Judged h) k f e = let z : _≡_ {A = ℕ} 0 1 = cc in omega arith
+settled-of cap (Body h zero) k f e = let z : _≡_ {A = ℕ} 0 1 = cc in omega arith
+settled-of cap (Body h (suc n)) k f e = omega arith
+
+-- what is kept lies in the room, so that its length is told
+
+keeps-in : (cap : ℕ) (k : Kept) → Roomy cap k 0 → keeps k ≤ cap
+keeps-in cap Empty r = omega arith
+keeps-in cap (Of c n) r = omega arith
+
+kept-told : (m : List ℕ) (k : Kept) → keeps k ≤ length m → keeps k ≡ holds (heldOf k m)
+kept-told m Empty l = refl
+kept-told m (Of c n) l = sym (length-take-le n m l)
+
+module _ (r : Receiver) (tp m : List ℕ) (size : 16 ≤ r .size) (whole : length tp ≡ r .size) (full : length m ≡ r .limit) where
+  shows : (s : Stage) (at : ℕ) (w : Walk) (a : Said) → Sound (length m) (length tp) w
+      → leave r s at (frameOf (w .phase)) (todoOf (w .phase)) (heldOf (w .kept) m) (keeps (w .kept)) a m
+      ≡ leave r s at (frameOf (w .phase)) (todoOf (w .phase)) (heldOf (w .kept) m) (holds (heldOf (w .kept) m)) a m
+  shows s at w a d =
+      ap (λ (k : ℕ). leave r s at (frameOf (w .phase)) (todoOf (w .phase)) (heldOf (w .kept) m) k a m)
+      (kept-told m (w .kept) (keeps-in (length m) (w .kept) (roomy (length m) (w .phase) (w .kept) (d .phase))))
+
+  packet-told : (c n : ℕ) → n ≤ length m → saidOf (F.Ordinary c n) tp m ≡ record { find = F.Ordinary c (length (take n m)); number = none; bytes = take n m }
+  packet-told c n l = ap (λ (k : ℕ). record { find = F.Ordinary c k; number = none; bytes = take n m }) (sym (length-take-le n m l))
+
+  tell-by : (g : Gain) (w : Walk) (p : Pulled wire) → shown (record { walk = w; gain = g }) m ≡ p → Sound (length m) (length tp) w → Gained (length m) g
+      → (p .find ≡ none → p .todo ≡ []) → Gives (plainly r p) (tellOf g r w) tp m
+  unfolding stepped shown
+  tell-by G.Nothing w p e s d q =
+      let s′ : Sound (r .limit) (r .size) w = rw (full, whole) at s in
+      record {
+        same = shows Fresh 0 w (says F.Nothing none) s ∙ ap (plainly r) e;
+        able = record {
+          size = size;
+          walk = record { at = omega arith; phase = s′ .phase };
+          stage = settled-of (length m) (w .phase) (w .kept) (s .phase) (ap (λ (p : Pulled wire). p .todo) e ∙ q (sym (ap (λ (p : Pulled wire). p .find) e)));
+        };
+      }
+  tell-by (G.Notice n) w p e s d q = record {
+    same = shows Plain (w .at) w (says (F.Notice n) (some n)) s ∙ ap (plainly r) e;
+    able = record { size = size; walk = rw (full, whole) at s; stage = omega arith };
+  }
+  tell-by (G.Packet c n) w p e s d q = record {
+    same = shows Plain (w .at) w (saidOf (F.Ordinary c n) tp m) s
+        ∙ ap (λ (a : Said). leave r Plain (w .at) (frameOf (w .phase)) (todoOf (w .phase)) (heldOf (w .kept) m) (holds (heldOf (w .kept) m)) a m) (packet-told c n (omega arith))
+        ∙ ap (plainly r) e;
+    able = record { size = size; walk = rw (full, whole) at s; stage = omega arith };
+  }
+
+  pub drop-gives : (n at : ℕ) → at ≤ length tp
+      → Gives (startly r at (dropped wire (suc n) (drop at tp)) tp m) (stepOf r Plain (length tp) Lost Empty (F.Notice (suc n))) tp m
+  unfolding stepped
+  drop-gives n at l =
+      let e : length tp ≡ at + length (drop at tp) = omega (arith, length-drop at tp) in
+      record {
+        same = ap (λ (i : ℕ). leave r Plain i lost [] free 0 (says (F.Notice (suc n)) (some (suc n))) m) e;
+        able = record { size = size; walk = record { at = omega arith; phase = omega arith }; stage = omega arith };
+      }
+
+  pub gone-gives : (n : ℕ) → Gives (gone r n m) (stepOf r Fresh 0 Lost Empty (F.Notice n)) tp m
+  unfolding stepped
+  gone-gives n = record { same = refl; able = record { size = size; walk = record { at = omega arith; phase = omega arith }; stage = omega arith } }
+
+  low-stage : (more : Bool) (o : ℕ) (w : Walk) → o < 2048 → 4 ≤ w .at → Settled (w .phase) → Staged (cond more (Low o) (Due o)) w
+  low-stage true o w l b s = (l, b, s)
+  low-stage false o w l b s = (l, b, s)
+
+  pub low-gives : (o : ℕ) (f : Find) (more : Bool) (i at : ℕ) → o < 2048 → 4 ≤ i → i ≤ length tp → Sound (r .limit) (r .size) (walkTo r at) → Settled (r .walk .phase)
+      → Gives (lowly (L.Gives f more i) r o tp m) (stepOf r (cond more (Low o) (Due o)) i (r .walk .phase) (r .walk .kept) f) tp m
+  unfolding stepped
+  low-gives o f more i at l b d w z = record {
+    same = refl;
+    able = record { size = size; walk = record { at = omega arith; phase = w .phase }; stage = low-stage more o (walkTo r i) l b z };
+  }
+
+-- with the room of the call's entry, m₀
+pub tell-gives : (r : Receiver) (tp m m₀ : List ℕ) → 16 ≤ r .size → length tp ≡ r .size → length m₀ ≡ r .limit → (a : Answer) (p : Pulled wire)
+    → shown a m ≡ p → Sound (length m₀) (length tp) (a .walk) → Gained (length m₀) (a .gain) → (p .find ≡ none → p .todo ≡ [])
+    → length m ≡ length m₀ → Gives (plainly r p) (tellOf (a .gain) r (a .walk)) tp m
+tell-gives r tp m m₀ size whole full a p e s d q same =
+    tell-by r tp m size whole (same ∙ full) (a .gain) (a .walk) p e
+    (subst (λ (n : ℕ). Sound n (length tp) (a .walk)) (sym same) s) (subst (λ (n : ℕ). Gained n (a .gain)) (sym same) d) q
+
+pub same-gives : (r : Receiver) (tp m : List ℕ) (n : ℕ) → Able r → Gives (unchanged r (F.Notice n) n m) (record { receiver = r; find = F.Notice n }) tp m
+unfolding stepped
+same-gives r tp m n a = record { same = refl; able = a }
+
+pub refused-gives : (r : Receiver) (tp m : List ℕ) → Able r → Gives (unchanged r F.Refused 1 m) (record { receiver = r; find = F.Refused }) tp m
+unfolding stepped
+refused-gives r tp m a = record { same = refl; able = a }

@@ -1,0 +1,90 @@
+-- Numbers of bytes, and stretches of a slice. Assumes nothing.
+use mathlib.Core.Path.{ap, refl, sym, _∙_, _≡_}
+use mathlib.Core.Option.{Option, none, some}
+use mathlib.Core.List.{List, [], _++_, _∷_}
+use Prim.Native.Nat.{min, suc, ℕ, _*_, _+_, _-_, _<_, _^_, _≤_}
+use native.Mathlib.Decide.{decLe}
+use native.Mathlib.Nat.{pow-le-pow-right}
+use native.Mathlib.Numerals.{add-one}
+use native.Mathlib.Omega.{arith}
+use lib.ListN.{drop, drop-of-length-le, getD, length, length-drop, take}
+use lib.Seq.{drop-cons, getD-drop, getD-take, length-take-le, paste, take-all, take-take}
+use Rattle.digits.specs.Digits.{number}
+use Rattle.queue.specs.Ring.{copied}
+use Rattle.wire.specs.Reading.{readOf}
+use Rattle.wire.specs.declared.Header.{Header}
+use Rattle.receiver.specs.declared.walk.Gain.the-variants.{Notice}
+use Rattle.receiver.specs.declared.walk.Kept.{Kept}
+use Rattle.receiver.specs.declared.walk.Kept.the-variants.{Empty, Of}
+use Rattle.receiver.specs.declared.walk.Phase.the-variants.{Lost}
+use Rattle.receiver.specs.Turns.{Stored, openedOf, stops, wholeOf}
+use Rattle.wire.specs.declared.Read.the-variants as R
+
+pub beyond-read : (at : ℕ) (k : Kept) (o : Option Header) → readOf o ≡ R.Beyond → stops at Lost Empty (Notice 12) ≡ wholeOf at o k
+beyond-read at k none e = refl
+beyond-read at k (some h) e = cc
+
+pub whole-read : (at : ℕ) (k : Kept) (h : Header) (o : Option Header) → readOf o ≡ R.Whole h → openedOf at h k ≡ wholeOf at o k
+whole-read at k h none e = cc
+whole-read at k h (some x) e = let q : h ≡ x = cc in ap (λ (y : Header). openedOf at y k) q
+
+-- the number of some bytes
+
+pub next-small : (k w b : ℕ) → w < 256 ^ k → b < 256 → w * 256 + b < 256 ^ suc k
+next-small k w b h g = omega arith
+
+pub small : (k w : ℕ) → w < 256 ^ k → k ≤ 5 → w < 1099511627776
+small k w h g = let q = pow-le-pow-right {n = 256} (omega arith) g in omega arith
+
+pub gather-on : (tp : List ℕ) (at n w i z : ℕ) → i < n → at + n ≤ length tp → number w (drop i (take n (drop at tp))) ≡ z
+    → number (w * 256 + getD tp (at + i) 0) (drop (i + 1) (take n (drop at tp))) ≡ z
+gather-on tp at n w i z h g e =
+    let l : length (take n (drop at tp)) ≡ n = length-take-le n (drop at tp) (omega (arith, length-drop at tp)) in
+    let q : i < length (take n (drop at tp)) = omega arith in
+    let d = getD-take n (drop at tp) i 0 h ∙ getD-drop at tp i 0 in
+    rw (add-one, ← d) (rw (drop-cons (take n (drop at tp)) i 0 q) at e)
+
+pub gather-off : (tp : List ℕ) (at n w i z : ℕ) → n ≤ i → at + n ≤ length tp → number w (drop i (take n (drop at tp))) ≡ z → w ≡ z
+gather-off tp at n w i z h g e =
+    let l : length (take n (drop at tp)) ≡ n = length-take-le n (drop at tp) (omega (arith, length-drop at tp)) in
+    let q : drop i (take n (drop at tp)) ≡ [] = empty (drop i (take n (drop at tp))) (omega (arith, length-drop i (take n (drop at tp)))) in
+    rw q at e
+  where
+    empty : (l : List ℕ) → length l ≡ 0 → l ≡ []
+    empty [] e = refl
+    empty (x ∷ xs) e = absurd (omega arith)
+
+pub stored-is : (tp : List ℕ) (at n c l : ℕ) (k : Kept) (m m′ : List ℕ) → k ≡ Of c l → at + n ≤ length tp → l + n ≤ length m
+    → m′ ≡ copied m l (take (at + n - at) (drop at tp)) → Stored tp at n k m (Of c (l + n)) m′
+stored-is tp at n c l k m m′ e h room g =
+    let q : at + n - at ≡ n = omega arith in
+    let f = length-take-le n (drop at tp) (omega (arith, length-drop at tp)) in
+    let all : min n (length m - l) ≡ n = omega arith in
+    let z : m′ ≡ paste m l (take n (drop at tp)) n = rw (q, f, all) at g in
+    let t = take-take n n (drop at tp) (omega arith) in
+    rw e (record { kept = refl; room = z ∙ ap (λ (t : List ℕ). take l m ++ t ++ drop (l + n) m) t })
+
+-- as much of a stretch as there is
+
+take-least : (l : List ℕ) (n k : ℕ) → k ≡ min n (length l) → take k l ≡ take n l
+take-least l n k e = go (decLe n (length l))
+  where
+    go : Dec (n ≤ length l) → take k l ≡ take n l
+    go (yes h) = let q : k ≡ n = omega arith in rw q
+    go (no h) = take-all k l (omega arith) ∙ sym (take-all n l (omega arith))
+
+pub part-is : (s : List ℕ) (start n i k : ℕ) → i ≡ min start (length s) → k ≡ min n (length s - i) → take (i + k - i) (drop i s) ≡ take n (drop start s)
+part-is s start n i k e f = go (decLe start (length s))
+  where
+    q : i + k - i ≡ k
+    q = omega arith
+
+    go : Dec (start ≤ length s) → take (i + k - i) (drop i s) ≡ take n (drop start s)
+    go (yes h) =
+        let p : i ≡ start = omega arith in
+        rw (q, p) (take-least (drop start s) n k (omega (arith, length-drop start s)))
+    go (no h) =
+        let a : drop i s ≡ [] = drop-of-length-le s {i = i} (omega arith) in
+        let b : drop start s ≡ [] = drop-of-length-le s {i = start} (omega arith) in
+        let x : k ≡ 0 = omega arith in
+        rw (q, a, b, x) (sym (take-all n [] (omega arith)))

@@ -1,0 +1,64 @@
+-- `receiver::walk::onward` meets its contract: the invariant: the call that the walk still asks for is the one asked for at first. The measure counts bytes, then events.
+-- Assumes nothing.
+use mathlib.Core.Path.{refl, _∙_, _≡_}
+use lib.ListN.{length}
+use borrow.Author.Needs.{needs}
+use Rattle.receiver.specs.State.{Sound, pullOf}
+use Rattle.receiver.specs.Turns.{toil}
+use Rattle.receiver.proofs.Bodies.{turn-ends, turn-on}
+use Rattle.receiver.proofs.walk.onward.Statement.{statement}
+use Rattle.receiver.proofs.walk.onward.Tie as tie
+
+abbrev Inv-loop : tie.InvT-loop
+Inv-loop tp room₀ w₀ room w = (length room ≡ length room₀) × Sound (length room₀) (length tp) w × (pullOf (length room₀) w tp room ≡ pullOf (length room₀) w₀ tp room₀)
+
+abbrev μ-loop : tie.MeasureT-loop
+μ-loop tp room₀ w₀ room w = toil (length tp) w
+
+loop-holds : tie.Need-loop-holds Inv-loop μ-loop
+loop-holds c = (refl, c .before .before .pre, refl)
+
+advance-requires : tie.Need-advance-requires Inv-loop μ-loop
+advance-requires c κs = let l = c .before .loop in rw (l .inv .0) (l .inv .1)
+
+enum-known-x : tie.Need-enum-known-x Inv-loop μ-loop
+enum-known-x c = search needs
+
+loop-less : tie.Need-loop-less Inv-loop μ-loop
+loop-less c =
+    let l = c .before .before .before .before .before .before .before .loop in
+    let a = c .before .before .before .before .before .before .before .before .before .before .args in
+    let o = turn-on (a .tp .now) (a .room .now) (l .room) _ (a .start) (l .w) _ (l .inv .0) (c .before .before .before .before .before .advance .ensures) _ (c .before .x .given .1) in o .less
+
+loop-again : tie.Need-loop-again Inv-loop μ-loop
+loop-again c =
+    let l = c .before .before .before .before .before .before .before .loop in
+    let a = c .before .before .before .before .before .before .before .before .before .before .args in
+    let o = turn-on (a .tp .now) (a .room .now) (l .room) _ (a .start) (l .w) _ (l .inv .0) (c .before .before .before .before .before .advance .ensures) _ (c .before .x .given .1) in (search needs, o .sound, o .same ∙ l .inv .2)
+
+enum-known-a : tie.Need-enum-known-a Inv-loop μ-loop
+enum-known-a c = search needs
+
+same-length : tie.Need-same-length Inv-loop μ-loop
+same-length c = search needs
+
+returns : tie.Need-returns Inv-loop μ-loop
+returns c =
+    let l = c .before .before .before .before .before .before .before .loop in
+    let a = c .before .before .before .before .before .before .before .before .before .before .args in
+    let o = turn-ends (a .tp .now) (a .room .now) (l .room) _ (a .start) (l .w) _ (l .inv .0) (c .before .before .before .before .before .advance .ensures) _ (c .before .a .given .1) (l .inv .2) in o
+
+pub onward-spec : {M : Type 1} → statement M
+onward-spec =
+    tie.close
+    (tie.spec
+    Inv-loop
+    μ-loop
+    loop-holds
+    advance-requires
+    enum-known-x
+    loop-less
+    loop-again
+    enum-known-a
+    same-length
+    returns)

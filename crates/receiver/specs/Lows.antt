@@ -1,0 +1,49 @@
+-- The low-latency part by its places in the TP, up to the next find. Assumes nothing.
+use Prim.Native.Nat.{ℕ, zero, suc, _+_}
+use mathlib.Core.Bool.{Bool, cond}
+use mathlib.Core.List.{List}
+use lib.ListN.{length, drop}
+use Rattle.wire.specs.declared.Header.{Header}
+use Rattle.receiver.specs.declared.Find.{Find}
+use Rattle.receiver.specs.declared.Find.the-variants as F
+use Rattle.receiver.specs.declared.kind.Kind.{Kind}
+use Rattle.receiver.specs.declared.kind.Kind.the-variants as K
+use Rattle.receiver.specs.declared.low.Llep.{Llep}
+use Rattle.receiver.specs.declared.low.Llep.the-variants as L
+use Rattle.receiver.specs.declared.low.One.{One}
+use Rattle.receiver.specs.declared.low.One.the-variants.{Stop, More}
+use Rattle.receiver.specs.declared.low.Lows.{Lows}
+use Rattle.receiver.specs.declared.low.Lows.the-variants.{Broken, End, Gives}
+use Rattle.receiver.specs.Kind.{kindOf}
+use Rattle.receiver.specs.Low.{llep}
+
+abbrev pub gives : Find → Bool → ℕ → One
+gives f more end = Stop (Gives f more end)
+
+abbrev pub goneBy : Bool → ℕ → One
+goneBy more end = cond more (More end) (Stop (End end))
+
+-- an LLEP at this place, and its find
+abbrev pub passedOf : Kind → Header → Bool → ℕ → One
+passedOf K.Fill h more at = goneBy more (at + 7 + h .size)
+passedOf K.Complete h more at = gives (F.Low (h .content) (at + 6) (h .size)) more (at + 7 + h .size)
+passedOf K.Reserved h more at = gives (F.Notice 16) more (at + 7 + h .size)
+passedOf K.First h more at = gives (F.Notice 16) more (at + 7 + h .size)
+passedOf K.Middle h more at = gives (F.Notice 16) more (at + 7 + h .size)
+passedOf K.Last h more at = gives (F.Notice 16) more (at + 7 + h .size)
+
+abbrev pub oneOf : Llep → ℕ → One
+oneOf L.Broken at = Stop (Broken at)
+oneOf (L.Whole h more) at = passedOf (kindOf h) h more at
+
+abbrev pub andThen : One → (ℕ → Lows) → Lows
+andThen (Stop r) on = r
+andThen (More i) on = on i
+
+unfoldable pub lows : ℕ → List ℕ → ℕ → Lows
+lows zero tp at = Broken at
+lows (suc k) tp at = andThen (oneOf (llep (drop at tp)) at) (λ i. lows k tp i)
+
+unfoldable pub lowsOf : List ℕ → ℕ → Lows
+unfolding lows
+lowsOf tp at = lows (suc (length tp)) tp at

@@ -1,0 +1,150 @@
+// What a header, and an EP's end, do to what is kept: 12, 14, 16, 15, or a packet.
+ghost use mathlib.Core.Path.{_≡_};
+ghost use Prim.Native.Nat.{_≤_};
+ghost use Rattle.wire.specs.Reading.{headerIn};
+ghost use Rattle.receiver.specs.Kind.{kindOf};
+ghost use Rattle.receiver.specs.State.{Roomy};
+ghost use Rattle.receiver.specs.Turns.{goes, stops, holdsOf, emptyOf, meetsOf, openedOf, wholeOf, fitsOf, furtherOf, admitOf, handedOf, finishOf};
+use crate::kind;
+use crate::kind::Kind;
+use crate::walk::Answer;
+use crate::walk::Gain;
+use crate::walk::Kept;
+use crate::walk::Phase;
+use crate::walk::Turn;
+use crate::walk::Walk;
+use wire::Header;
+use wire::Read;
+
+pub fn stop(at: usize, phase: Phase, kept: Kept, gain: Gain) -> Turn
+    ensures { λ r. ⌜ r ≡ stops at phase kept gain ⌝ }
+{
+    Turn::Stop(Answer {
+        walk: Walk { at, phase, kept },
+        gain,
+    })
+}
+
+fn more(at: usize, phase: Phase, kept: Kept) -> Turn
+    ensures { λ r. ⌜ r ≡ goes at phase kept ⌝ }
+{
+    Turn::More(Walk { at, phase, kept })
+}
+
+fn empty(kept: Kept) -> bool
+    ensures { λ r. ⌜ r ≡ emptyOf kept ⌝ }
+{
+    match kept {
+        Kept::Empty => true,
+        Kept::Of { content: _, len: _ } => false,
+    }
+}
+
+fn holds(kept: Kept, content: u8) -> bool
+    ensures { λ r. ⌜ r ≡ holdsOf kept content ⌝ }
+{
+    match kept {
+        Kept::Empty => false,
+        Kept::Of { content: c, len: _ } => c == content,
+    }
+}
+
+fn meets(kind: Kind, kept: Kept, content: u8) -> bool
+    ensures { λ r. ⌜ r ≡ meetsOf kind kept content ⌝ }
+{
+    match kind {
+        Kind::Fill => empty(kept),
+        Kind::Reserved => empty(kept),
+        Kind::Complete => empty(kept),
+        Kind::First => empty(kept),
+        Kind::Middle => holds(kept, content),
+        Kind::Last => holds(kept, content),
+    }
+}
+
+// A header is whole: 14 if it doesn't fit what is kept.
+fn opened(at: usize, header: Header, kept: Kept) -> Turn
+    ensures { λ r. ⌜ r ≡ openedOf at header kept ⌝ }
+{
+    if meets(kind::kind_of(header), kept, header.content) {
+        return more(at, Phase::Judged(header), kept);
+    }
+    stop(at, Phase::Judged(header), Kept::Empty, Gain::Notice(14))
+}
+
+// Six bytes are there.
+pub fn whole(at: usize, word: u64, kept: Kept) -> Turn
+    ensures { λ r. ⌜ r ≡ wholeOf at (headerIn word) kept ⌝ }
+{
+    match wire::read_header(word) {
+        Read::Beyond => stop(at, Phase::Lost, Kept::Empty, Gain::Notice(12)),
+        Read::Whole(header) => opened(at, header, kept),
+    }
+}
+
+// Into an EP whose data are kept behind len bytes of this content, if the room has place for them.
+fn fits(at: usize, header: Header, content: u8, len: usize, cap: usize) -> Turn
+    requires { ⌜ len ≤ cap ⌝ }
+    ensures { λ r. ⌜ r ≡ fitsOf at header content len cap ⌝ }
+{
+    let size = header.size;
+    let body = Phase::Body { header, left: size };
+    if size <= cap - len {
+        return more(at, body, Kept::Of { content, len });
+    }
+    stop(at, body, Kept::Empty, Gain::Notice(15))
+}
+
+fn further(at: usize, header: Header, kept: Kept, cap: usize) -> Turn
+    requires { ⌜ Roomy cap kept 0 ⌝ }
+    ensures { λ r. ⌜ r ≡ furtherOf at header kept cap ⌝ }
+{
+    let size = header.size;
+    match kept {
+        Kept::Empty => more(at, Phase::Body { header, left: size }, kept),
+        Kept::Of { content, len } => fits(at, header, content, len, cap),
+    }
+}
+
+// Into the EP of a header already judged: 16, 15.
+pub fn admit(at: usize, header: Header, kept: Kept, cap: usize) -> Turn
+    requires { ⌜ Roomy cap kept 0 ⌝ }
+    ensures { λ r. ⌜ r ≡ admitOf (kindOf header) at header kept cap ⌝ }
+{
+    let size = header.size;
+    let content = header.content;
+    let inside = Phase::Body { header, left: size };
+    match kind::kind_of(header) {
+        Kind::Fill => more(at, inside, Kept::Empty),
+        Kind::Reserved => stop(at, inside, Kept::Empty, Gain::Notice(16)),
+        Kind::Complete => fits(at, header, content, 0, cap),
+        Kind::First => fits(at, header, content, 0, cap),
+        Kind::Middle => further(at, header, kept, cap),
+        Kind::Last => further(at, header, kept, cap),
+    }
+}
+
+fn handed(at: usize, kept: Kept) -> Turn
+    ensures { λ r. ⌜ r ≡ handedOf at kept ⌝ }
+{
+    let next = Phase::Head { have: 0, word: 0 };
+    match kept {
+        Kept::Empty => more(at, next, kept),
+        Kept::Of { content, len } => stop(at, next, Kept::Empty, Gain::Packet { content, len }),
+    }
+}
+
+// The last byte of an EP is read.
+pub fn finish(at: usize, header: Header, kept: Kept) -> Turn
+    ensures { λ r. ⌜ r ≡ finishOf (kindOf header) at kept ⌝ }
+{
+    let next = Phase::Head { have: 0, word: 0 };
+    match kind::kind_of(header) {
+        Kind::Fill => more(at, next, kept),
+        Kind::Reserved => more(at, next, kept),
+        Kind::Complete => handed(at, kept),
+        Kind::First => more(at, next, kept),
+        Kind::Middle => more(at, next, kept),
+        Kind::Last => handed(at, kept),
+    }
+}

@@ -1,0 +1,157 @@
+// The receiver: opened once, called for one find at a time, told of gaps; and the stretch that a find names.
+ghost use mathlib.Core.Path.{_≡_};
+ghost use Prim.Native.Nat.{_≤_};
+ghost use lib.ListN.{length, take, drop};
+ghost use Rattle.receiver.specs.State.{Able};
+ghost use Rattle.receiver.specs.Call.{callOf, Gives, freshOf, gapOf, OpenedAs, dataOf};
+
+mod judge;
+mod kind;
+mod low;
+mod outset;
+mod stages;
+mod walk;
+
+use walk::Kept;
+use walk::Phase;
+use walk::Walk;
+
+// One call's answer. Document 01's number is 1 for Refused, and a notice's own.
+pub enum Find {
+    Nothing,
+    Refused,
+    Notice(u8),
+    Low {
+        content: u8,
+        start: usize,
+        len: usize,
+    },
+    Ordinary {
+        content: u8,
+        len: usize,
+    },
+}
+
+// Where a TP stands: not begun; in its low-latency part; before its ordinary bytes; among them. The offset is kept.
+pub enum Stage {
+    Fresh,
+    Low(usize),
+    Due(usize),
+    Plain,
+}
+
+pub struct Receiver {
+    size: usize,
+    stream: u8,
+    limit: usize,
+    stage: Stage,
+    walk: Walk,
+}
+
+pub enum Opened {
+    Refused,
+    Ready(Receiver),
+}
+
+pub struct Step {
+    pub receiver: Receiver,
+    pub find: Find,
+}
+
+// Out of step, before a TP.
+fn fresh(size: usize, stream: u8, limit: usize) -> Receiver
+    requires { ⌜ 16 ≤ size ⌝ }
+    ensures { λ r. ⌜ (r ≡ freshOf size stream limit) × Able r ⌝ }
+{
+    Receiver {
+        size,
+        stream,
+        limit,
+        stage: Stage::Fresh,
+        walk: Walk {
+            at: 0,
+            phase: Phase::Lost,
+            kept: Kept::Empty,
+        },
+    }
+}
+
+pub fn open(tp: usize, stream: u8, room: &[u8]) -> Opened
+    ensures { λ q. ⌜ OpenedAs tp stream (length (now (room .entry))) q ⌝ }
+{
+    if tp < 16 {
+        return Opened::Refused;
+    }
+    if 2051 < tp {
+        return Opened::Refused;
+    }
+    if 15 < stream {
+        return Opened::Refused;
+    }
+    if 131072 < room.len() {
+        return Opened::Refused;
+    }
+    Opened::Ready(fresh(tp, stream, room.len()))
+}
+
+// The next find of the TP; the same TP and room are lent until one says none.
+pub fn next(r: Receiver, tp: &[u8], room: &mut [u8]) -> Step
+    requires { ⌜ Able r ⌝ }
+    ensures { λ q. ⌜ Gives (callOf r (now (tp .entry)) (now (room .entry))) q (now (tp .entry)) (now (room .exit)) ⌝ }
+{
+    if room.len() != r.limit {
+        return Step {
+            receiver: r,
+            find: Find::Refused,
+        };
+    }
+    if tp.len() != r.size {
+        return Step {
+            receiver: r,
+            find: Find::Notice(6),
+        };
+    }
+    let stage = r.stage;
+    let w = r.walk;
+    let at = w.at;
+    match stage {
+        Stage::Fresh => stages::first(r, tp, room),
+        Stage::Low(offset) => stages::low_part(r, offset, at, tp, room),
+        Stage::Due(offset) => stages::due(r, offset, at, tp, room),
+        Stage::Plain => stages::plain(r, tp, room),
+    }
+}
+
+// Being told of a gap.
+pub fn gap(r: Receiver) -> Receiver
+    requires { ⌜ Able r ⌝ }
+    ensures { λ q. ⌜ (q ≡ gapOf r) × Able q ⌝ }
+{
+    fresh(r.size, r.stream, r.limit)
+}
+
+// As much of a stretch as there is.
+fn part(s: &[u8], start: usize, len: usize) -> &[u8]
+    ensures { λ r. ⌜ now r ≡ take len (drop start (now (s .entry))) ⌝ }
+{
+    let from = outset::least(start, s.len());
+    let end = from + outset::least(len, s.len() - from);
+    &s[from..end]
+}
+
+// The stretch that a find names: of the TP if low-latency, of the room if ordinary, else empty.
+pub fn found<'a>(tp: &'a [u8], room: &'a [u8], f: Find) -> &'a [u8]
+    ensures { λ r. ⌜ now r ≡ dataOf f (now (tp .entry)) (now (room .entry)) ⌝ }
+{
+    match f {
+        Find::Nothing => part(tp, 0, 0),
+        Find::Refused => part(tp, 0, 0),
+        Find::Notice(_) => part(tp, 0, 0),
+        Find::Low {
+            content: _,
+            start,
+            len,
+        } => part(tp, start, len),
+        Find::Ordinary { content: _, len } => part(room, 0, len),
+    }
+}

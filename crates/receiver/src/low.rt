@@ -1,0 +1,141 @@
+// The low-latency part: each LLEP with its end byte, up to one that gives a find.
+ghost use mathlib.Core.Path.{_≡_};
+ghost use Prim.Native.Nat.{_+_, _≤_};
+ghost use lib.ListN.{length, drop};
+ghost use Rattle.golay.specs.Answers.{endOf};
+ghost use Rattle.receiver.specs.Kind.{kindOf};
+ghost use Rattle.receiver.specs.Low.{ended, sized, llep};
+ghost use Rattle.receiver.specs.Lows.{gives, goneBy, passedOf, oneOf, lowsOf};
+use crate::Find;
+use crate::kind;
+use crate::kind::Kind;
+use crate::walk;
+use golay::End;
+use wire::Header;
+use wire::Read;
+
+pub enum Llep {
+    Broken,
+    Whole { header: Header, more: bool },
+}
+
+// What a walk comes to: the broken place; the part's end; or a find, whether another LLEP follows, and the place behind it.
+pub enum Lows {
+    Broken(usize),
+    End(usize),
+    Gives { find: Find, more: bool, end: usize },
+}
+
+pub enum One {
+    Stop(Lows),
+    More(usize),
+}
+
+fn ends(b: u8, header: Header) -> Llep
+    ensures { λ r. ⌜ r ≡ ended (endOf b) header ⌝ }
+{
+    match golay::end_of(b) {
+        End::Zeros => Llep::Whole {
+            header,
+            more: false,
+        },
+        End::Ones => Llep::Whole { header, more: true },
+        End::Neither => Llep::Broken,
+    }
+}
+
+fn closed(tp: &[u8], at: usize, header: Header) -> Llep
+    requires { ⌜ at + 7 ≤ length (now tp) ⌝ }
+    ensures { λ r. ⌜ r ≡ sized header (drop at (now (tp .entry))) ⌝ }
+{
+    let size = header.size;
+    if tp.len() - at - 7 < size {
+        return Llep::Broken;
+    }
+    let last = at + 6 + size;
+    ends(tp[last], header)
+}
+
+// The LLEP at `at`.
+fn item(tp: &[u8], at: usize) -> Llep
+    requires { ⌜ at ≤ length (now tp) ⌝ }
+    ensures { λ r. ⌜ r ≡ llep (drop at (now (tp .entry))) ⌝ }
+{
+    if tp.len() - at < 7 {
+        return Llep::Broken;
+    }
+    match wire::read_header(walk::gather(tp, at, 6, 0, 0)) {
+        Read::Beyond => Llep::Broken,
+        Read::Whole(h) => closed(tp, at, h),
+    }
+}
+
+fn gone(more: bool, end: usize) -> One
+    ensures { λ r. ⌜ r ≡ goneBy more end ⌝ }
+{
+    if more {
+        return One::More(end);
+    }
+    One::Stop(Lows::End(end))
+}
+
+fn give(find: Find, more: bool, end: usize) -> One
+    ensures { λ r. ⌜ r ≡ gives find more end ⌝ }
+{
+    One::Stop(Lows::Gives { find, more, end })
+}
+
+// An LLEP that isn't broken: fill is silent; a reserved content or a fragment gives 16.
+fn passed(header: Header, more: bool, at: usize, len: usize) -> One
+    requires { ⌜ at + 7 + header .size ≤ len ⌝ }
+    ensures { λ r. ⌜ r ≡ passedOf (kindOf header) header more at ⌝ }
+{
+    let size = header.size;
+    let end = at + 7 + size;
+    match kind::kind_of(header) {
+        Kind::Fill => gone(more, end),
+        Kind::Reserved => give(Find::Notice(16), more, end),
+        Kind::Complete => {
+            let content = header.content;
+            let start = at + 6;
+            let len = size;
+            give(
+                Find::Low {
+                    content,
+                    start,
+                    len,
+                },
+                more,
+                end,
+            )
+        }
+        Kind::First => give(Find::Notice(16), more, end),
+        Kind::Middle => give(Find::Notice(16), more, end),
+        Kind::Last => give(Find::Notice(16), more, end),
+    }
+}
+
+fn single(tp: &[u8], at: usize) -> One
+    requires { ⌜ at ≤ length (now tp) ⌝ }
+    ensures { λ r. ⌜ r ≡ oneOf (llep (drop at (now (tp .entry)))) at ⌝ }
+{
+    match item(tp, at) {
+        Llep::Broken => One::Stop(Lows::Broken(at)),
+        Llep::Whole { header, more } => passed(header, more, at, tp.len()),
+    }
+}
+
+// From `start` on, up to the first 00 end byte, the first broken LLEP or the first find.
+pub fn walk(tp: &[u8], start: usize) -> Lows
+    requires { ⌜ start ≤ length (now tp) ⌝ }
+    ensures { λ r. ⌜ r ≡ lowsOf (now (tp .entry)) start ⌝ }
+{
+    let mut at = start;
+    let out = loop {
+        match single(tp, at) {
+            One::Stop(r) => break r,
+            One::More(i) => at = i,
+        }
+    };
+    out
+}

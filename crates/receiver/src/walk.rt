@@ -1,0 +1,152 @@
+// Ordinary bytes: read on up to the next find, in runs.
+ghost use mathlib.Core.Path.{_≡_};
+ghost use Prim.Native.Nat.{_+_, _≤_, _<_, _^_};
+ghost use lib.ListN.{length, take, drop};
+ghost use Rattle.digits.specs.Digits.{number};
+ghost use Rattle.receiver.specs.declared.walk.Phase.the-variants.{Body};
+ghost use Rattle.receiver.specs.State.{Sound, Roomy};
+ghost use Rattle.receiver.specs.Turns.{walkAt, headerTurn, Stored, Turned, Ends};
+use crate::judge;
+use wire::Header;
+
+// Out of step; in a header, of which these bytes are read (none between two EPs); at a header already judged against
+// what is kept; in an EP's data, of which so many bytes are left.
+pub enum Phase {
+    Lost,
+    Head { have: usize, word: u64 },
+    Judged(Header),
+    Body { header: Header, left: usize },
+}
+
+// What is kept at the room's start. Inside an EP nothing kept means that it is passed over.
+pub enum Kept {
+    Empty,
+    Of { content: u8, len: usize },
+}
+
+pub struct Walk {
+    pub at: usize,
+    pub phase: Phase,
+    pub kept: Kept,
+}
+
+pub enum Gain {
+    Nothing,
+    Notice(u8),
+    Packet { content: u8, len: usize },
+}
+
+pub struct Answer {
+    pub walk: Walk,
+    pub gain: Gain,
+}
+
+pub enum Turn {
+    More(Walk),
+    Stop(Answer),
+}
+
+// n bytes of an EP's data, into the room if they are kept.
+fn store(tp: &[u8], at: usize, n: usize, kept: Kept, room: &mut [u8]) -> Kept
+    requires { ⌜ at + n ≤ length (now tp) ⌝ }
+    requires { ⌜ Roomy (length (now room)) kept n ⌝ }
+    ensures { λ r. ⌜ Stored (now (tp .entry)) at n kept (now (room .entry)) r (now (room .exit)) ⌝ }
+{
+    match kept {
+        Kept::Empty => kept,
+        Kept::Of { content, len } => {
+            let end = at + n;
+            queue::copy_at(room, len, &tp[at..end]);
+            Kept::Of {
+                content,
+                len: len + n,
+            }
+        }
+    }
+}
+
+fn wide(b: u8) -> u64
+    ensures { λ r. ⌜ r ≡ b ⌝ }
+{
+    b as u64
+}
+
+// The number of n bytes behind those of word, of which there are have.
+pub fn gather(tp: &[u8], at: usize, n: usize, have: usize, word: u64) -> u64
+    requires { ⌜ (have + n ≤ 6) × (word < 256 ^ have) × (at + n ≤ length (now tp)) ⌝ }
+    ensures { λ r. ⌜ r ≡ number word (take n (drop at (now (tp .entry)))) ⌝ }
+{
+    let mut w = word;
+    let mut i = 0;
+    while i < n {
+        w = w * 256 + wide(tp[at + i]);
+        i += 1;
+    }
+    w
+}
+
+// Reading a header on.
+fn header(tp: &[u8], at: usize, have: usize, word: u64, kept: Kept) -> Turn
+    requires { ⌜ (have ≤ 5) × (word < 256 ^ have) × (at ≤ length (now tp)) ⌝ }
+    ensures { λ r. ⌜ r ≡ headerTurn (now (tp .entry)) at have word kept ⌝ }
+{
+    let rest = tp.len() - at;
+    let missing = 6 - have;
+    if rest < missing {
+        let w = gather(tp, at, rest, have, word);
+        let end = at + rest;
+        let got = have + rest;
+        let phase = Phase::Head { have: got, word: w };
+        return judge::stop(end, phase, kept, Gain::Nothing);
+    }
+    let w = gather(tp, at, missing, have, word);
+    judge::whole(at + missing, w, kept)
+}
+
+// Reading an EP's data on.
+fn body(tp: &[u8], at: usize, header: Header, left: usize, kept: Kept, room: &mut [u8]) -> Turn
+    requires { ⌜ Sound (length (now room)) (length (now tp)) (walkAt at (Body header left) kept) ⌝ }
+    ensures { λ r. ⌜ Turned (length (now (room .entry))) (walkAt at (Body header left) kept) (now (tp .entry)) (now (room .entry)) r (now (room .exit)) ⌝ }
+{
+    let rest = tp.len() - at;
+    if rest < left {
+        let k = store(tp, at, rest, kept, room);
+        let end = at + rest;
+        let owed = left - rest;
+        let phase = Phase::Body { header, left: owed };
+        return judge::stop(end, phase, k, Gain::Nothing);
+    }
+    let k = store(tp, at, left, kept, room);
+    judge::finish(at + left, header, k)
+}
+
+// One turn of a call.
+fn advance(w: Walk, tp: &[u8], room: &mut [u8]) -> Turn
+    requires { ⌜ Sound (length (now room)) (length (now tp)) w ⌝ }
+    ensures { λ r. ⌜ Turned (length (now (room .entry))) w (now (tp .entry)) (now (room .entry)) r (now (room .exit)) ⌝ }
+{
+    let at = w.at;
+    let phase = w.phase;
+    let kept = w.kept;
+    match phase {
+        Phase::Lost => judge::stop(tp.len(), phase, kept, Gain::Nothing),
+        Phase::Head { have, word } => header(tp, at, have, word, kept),
+        Phase::Judged(h) => judge::admit(at, h, kept, room.len()),
+        Phase::Body { header: h, left } => body(tp, at, h, left, kept, room),
+    }
+}
+
+// Reads on up to the next find, and not a byte further.
+pub fn onward(start: Walk, tp: &[u8], room: &mut [u8]) -> Answer
+    requires { ⌜ Sound (length (now room)) (length (now tp)) start ⌝ }
+    ensures { λ r. ⌜ Ends (length (now (room .entry))) start (now (tp .entry)) (now (room .entry)) r (now (room .exit)) ⌝ }
+{
+    let mut w = start;
+    let out = loop {
+        match advance(w, tp, room) {
+            Turn::More(x) => w = x,
+            Turn::Stop(a) => break a,
+        }
+    };
+    out
+}

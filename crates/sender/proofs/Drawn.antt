@@ -1,0 +1,145 @@
+-- Laws of the draw. Assumes nothing.
+use mathlib.Core.Path.{_≡_, refl, sym, ap, _∙_}
+use mathlib.Core.Bool.{Bool, true, false, cond}
+use mathlib.Core.Logic.{⊎-elim}
+use mathlib.Core.List.{List, [], _∷_, _++_, append-assoc, flatten}
+use Prim.Native.Nat.{ℕ, suc, _+_, _-_, _≤_, _<_, min}
+use native.Mathlib.Omega.{arith}
+use lib.Dec.{ltb}
+use lib.ListN.{length, take, length-append}
+use lib.Seq.{paste, take-length, length-paste, length-take-le, drop-at}
+use borrow.Author.Tests.{le-ltb, lt-ltb, eq-eqb, ne-eqb}
+use Rattle.queue.specs.declared.Ring.{Ring}
+use Rattle.queue.specs.Ring.{copied, held, off, Kept}
+use Rattle.queue.proofs.Copies.{copied-all}
+use Rattle.queue.proofs.Puts.{length-held}
+use Rattle.queue.proofs.Takes.{wrapped}
+use Rattle.wire.specs.Wire.{tpHeader}
+use Rattle.wire.proofs.Laws.{tp-header-length}
+use Rattle.sender.specs.declared.Sender.{Sender}
+use Rattle.sender.specs.declared.Answer.the-variants.{Done}
+use Rattle.sender.specs.Answers.{Left, refused, lent}
+use Rattle.sender.specs.Opening.{Sound}
+use Rattle.sender.specs.Drawing.{leave, some, part, stream, owedAfter, under, offset, drawWith, drawOf, took, drawBy, overwritten, drew}
+use Rattle.sender.specs.Steps.{Parted, Filled}
+use Rattle.sender.proofs.Bools.{split}
+use Rattle.sender.proofs.Stream.{owed-least}
+
+-- the flag: the part has bytes
+some-tells : (es : List (List ℕ)) → ltb 0 (length (part es)) ≡ some es
+unfolding part
+some-tells [] = refl
+some-tells (e ∷ es) = lt-ltb 0 (length (part (e ∷ es))) (some-bytes e (cond (some es) 0xFF 0x00) (part es))
+  where
+    some-bytes : (e : List ℕ) (x : ℕ) (r : List ℕ) → 0 < length (e ++ x ∷ r)
+    some-bytes e x r = omega (arith, length-append e (x ∷ r))
+
+more-than-four : (L : ℕ) → ltb 4 (4 + L) ≡ ltb 0 L
+more-than-four L =
+    ⊎-elim
+    (λ z. le-ltb 4 (4 + L) (omega arith) ∙ sym (le-ltb 0 L z))
+    (λ z. lt-ltb 4 (4 + L) (omega arith) ∙ sym (lt-ltb 0 L z))
+    (split L 0)
+
+pub offset-within : (low first r : ℕ) → first < r → low + first ≡ offset low first r
+unfolding offset
+offset-within low first r h = rw (lt-ltb first r h)
+
+pub offset-none : (low first r : ℕ) → r ≤ first → 2047 ≡ offset low first r
+unfolding offset
+offset-none low first r h = rw (le-ltb first r h)
+
+-- the header over the first four bytes
+topped : (d₂ h x y : List ℕ) → length x ≡ 4 → length h ≡ 4 → d₂ ≡ x ++ y → paste d₂ 0 h (length h) ≡ h ++ y
+topped d₂ h x y lx lh e = rw (take-length, e, lh, drop-at x y 4 lx) refl
+
+pub headed : (d h d′ : List ℕ) → length h ≡ 4 → 4 ≤ length d → d′ ≡ copied d 0 h → length d′ ≡ length d
+headed d h d′ l p e = ap length (e ∙ copied-all d h 0 (omega arith)) ∙ length-paste d 0 h (length h) (omega arith) (omega arith)
+
+module _ (s : Sender) (w : Sound s) (low own d d₁ d₂ : List ℕ) (t u : Ring) (at n ow : ℕ)
+    (el : length low ≡ s .setting .lowspace) (eo : length own ≡ s .setting .space) (ed : length d ≡ s .setting .payload + 4)
+    (p : Parted (s .setting .payload) low (s .low) d d₁ t at) (o : Filled own (s .ordinary) (s .owed) d₁ at d₂ u n ow) where
+  kept-own : Kept own (s .ordinary)
+  kept-own = record { head = rw eo (w .head); len = rw eo (w .len) }
+
+  pub gone-few : n ≤ s .ordinary .len
+  gone-few = omega (arith, o .gone, length-held own (s .ordinary) kept-own)
+
+  pub finished : (first : Bool) (off′ rest : ℕ) (h d₃ : List ℕ) → off′ ≡ offset (at - 4) (s .owed + s .rest) (s .setting .payload + 4 - at)
+      → first ≡ ltb 4 at → h ≡ tpHeader (s .setting .stream) first off′ → d₃ ≡ copied d₂ 0 h → rest ≡ under n (held own (s .ordinary)) (s .rest)
+      → record { answer = Done (record { setting = s .setting; low = t; ordinary = u; owed = ow; rest = rest }); buffer = d₃ } ≡ took s (drawBy s low own)
+  unfolding drawBy drawOf drawWith
+  finished first off′ rest h d₃ en ef eh c₃ er =
+      let P : ℕ = s .setting .payload in
+      let str : ℕ = s .setting .stream in
+      let es : List (List ℕ) = leave (suc P) P (held low (s .low)) P in
+      let L : ℕ = length (part es) in
+      let Q : List ℕ = held own (s .ordinary) in
+      let pe = p .end in
+      let pw = p .within in
+      let e₁ = p .same in
+      let f₁ : at - 4 ≡ L = omega arith in
+      let f₂ : P + 4 - at ≡ P - L = omega arith in
+      let f₃ : length d₁ - at ≡ P - L = omega arith in
+      let fl : first ≡ some es = ef ∙ rw (pe) (more-than-four L) ∙ some-tells es in
+      let hn : h ≡ tpHeader str (some es) (offset L (s .owed + s .rest) (P - L)) = eh ∙ rw (fl, en, f₁, f₂) refl in
+      let lh : length h ≡ 4 = rw hn (tp-header-length str (some es) (offset L (s .owed + s .rest) (P - L))) in
+      let l4 : length (take 4 d) ≡ 4 = length-take-le 4 d (omega arith) in
+      let e₃ : d₃ ≡ paste d₂ 0 h (length h) = c₃ ∙ copied-all d₂ h 0 (omega (arith, o .same)) in
+      let body : d₂ ≡ take 4 d ++ (part es ++ take (P - L) (stream (P - L) (s .owed) Q)) =
+      o .bytes ∙ rw (f₃, p .bytes) (append-assoc (take 4 d) (part es) (take (P - L) (stream (P - L) (s .owed) Q))) in
+      let tp : d₃ ≡ tpHeader str (some es) (offset L (s .owed + s .rest) (P - L)) ++ (part es ++ take (P - L) (stream (P - L) (s .owed) Q)) =
+      e₃ ∙ topped d₂ h (take 4 d) (part es ++ take (P - L) (stream (P - L) (s .owed) Q)) l4 lh body ∙ ap (λ (z : List ℕ). z ++ (part es ++ take (P - L) (stream (P - L) (s .owed) Q))) hn in
+      let g : n ≡ min (P - L - s .owed) (length Q) = o .gone ∙ rw f₃ refl in
+      let oe : ow ≡ owedAfter (P - L) (s .owed) Q = o .left ∙ rw f₃ refl in
+      let te : t ≡ off (s .setting .lowspace) (s .low) (length (flatten es)) = rw (← el) (p .ring) in
+      let ue : u ≡ off (s .setting .space) (s .ordinary) n = rw (← eo) (o .ring) in
+      rw (tp, te, ue, oe, er, g) refl
+
+  pub still-sound : (rest : ℕ) → rest ≤ s .ordinary .len - n → Sound (record { setting = s .setting; low = t; ordinary = u; owed = ow; rest = rest })
+  unfolding off
+  still-sound rest h =
+      let lh = w .low-head in
+      let ll = w .low-len in
+      let oh = w .head in
+      let ol = w .len in
+      let gf = gone-few in
+      let pg = p .gone in
+      let N : ℕ = length (flatten (leave (suc (s .setting .payload)) (s .setting .payload) (held low (s .low)) (s .setting .payload))) in
+      let te : t ≡ off (s .setting .lowspace) (s .low) N = rw (← el) (p .ring) in
+      let ue : u ≡ off (s .setting .space) (s .ordinary) n = rw (← eo) (o .ring) in
+      record {
+        payload-least = w .payload-least;
+        payload-most = w .payload-most;
+        piece-least = w .piece-least;
+        piece-most = w .piece-most;
+        lowspace = w .lowspace;
+        space = w .space;
+        low-head = rw te (wrapped (s .setting .lowspace) (s .low .head + N) (omega arith));
+        low-len = rw te (omega arith);
+        head = rw ue (wrapped (s .setting .space) (s .ordinary .head + n) (omega arith));
+        len = rw ue (omega arith);
+        owed = rw (o .left) (owed-least (length d₁ - at) (s .owed) (held own (s .ordinary)) (w .owed));
+        rest = rw ue h;
+      }
+
+-- ---- the call
+
+module _ (s : Sender) (low own b : List ℕ) where
+  pub draw-1 : lent (s .setting) (length low) (length own) ≡ false → refused 1 b ≡ drew s low own b
+  unfolding drew
+  draw-1 e = rw e
+
+  module _ (e : lent (s .setting) (length low) (length own) ≡ true) where
+    pub draw-overwritten : overwritten (s .setting .payload) (held low (s .low)) ≡ true → refused 1 b ≡ drew s low own b
+    unfolding drew
+    draw-overwritten h = rw (e, h)
+
+    module _ (h : overwritten (s .setting .payload) (held low (s .low)) ≡ false) where
+      pub draw-5 : (length b ≡ s .setting .payload + 4 → ⊥) → refused 5 b ≡ drew s low own b
+      unfolding drew
+      draw-5 g = rw (e, h, ne-eqb (length b) (s .setting .payload + 4) g)
+
+      pub draw-done : (x : Left) → length b ≡ s .setting .payload + 4 → x ≡ took s (drawBy s low own) → x ≡ drew s low own b
+      unfolding drew
+      draw-done x g f = f ∙ rw (e, h, eq-eqb (length b) (s .setting .payload + 4) g) refl

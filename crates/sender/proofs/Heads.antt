@@ -1,0 +1,116 @@
+-- Laws of headers read from queued bytes. Assumes nothing.
+use mathlib.Core.Path.{_≡_, sym, ap, _∙_}
+use mathlib.Core.Bool.{true, false, _&&_}
+use mathlib.Core.List.{List, [], _∷_}
+use Prim.Native.Nat.{ℕ, _+_, _*_, _≤_, _<_}
+use native.Mathlib.Nat.{add-assoc, add-zero}
+use native.Mathlib.Omega.{arith}
+use lib.Dec.{leb, ltb, eqb}
+use lib.ListN.{length, drop, getD, length-drop}
+use lib.Seq.{getD-drop, take-all}
+use borrow.Author.Tests.{le-ltb, lt-ltb, le-leb, lt-leb, eq-eqb, ne-eqb, leb-true, ltb-true}
+use Rattle.digits.specs.Digits.{number}
+use Rattle.wire.specs.Wire.{header}
+use Rattle.sender.specs.Offering.{known}
+use Rattle.sender.specs.Drawing.{headAt, sizeIn, contentIn, lowIn, lowAt, next, span, overwritten}
+use Rattle.sender.specs.Steps.{wordAt}
+use Rattle.sender.proofs.Bools.{and-left, cond-case}
+
+-- ---- six bytes, by three
+
+word-drop : (q : List ℕ) (n i : ℕ) → wordAt (drop n q) i ≡ wordAt q (n + i)
+unfolding wordAt
+word-drop q n i = simp (getD-drop, add-assoc)
+
+two-words : (q : List ℕ) → 6 ≤ length q → wordAt q 0 * 16777216 + wordAt q 3 ≡ headAt q
+unfolding headAt wordAt
+two-words [] h = absurd (omega arith)
+two-words (a ∷ []) h = absurd (omega arith)
+two-words (a ∷ b ∷ []) h = absurd (omega arith)
+two-words (a ∷ b ∷ c ∷ []) h = absurd (omega arith)
+two-words (a ∷ b ∷ c ∷ d ∷ []) h = absurd (omega arith)
+two-words (a ∷ b ∷ c ∷ d ∷ e ∷ []) h = absurd (omega arith)
+two-words (a ∷ b ∷ c ∷ d ∷ e ∷ f ∷ q) h = omega arith
+
+pub six-bytes : (b : List ℕ) → length b ≡ 6
+    → (getD b 0 0 * 65536 + getD b 1 0 * 256 + getD b 2 0) * 16777216 + (getD b 3 0 * 65536 + getD b 4 0 * 256 + getD b 5 0) ≡ number 0 b
+unfolding headAt wordAt
+six-bytes b l = two-words b (omega arith) ∙ ap (number 0) (take-all 6 b (omega arith))
+
+pub head-is : (q : List ℕ) (i : ℕ) → i + 6 ≤ length q → wordAt q i * 16777216 + wordAt q (i + 3) ≡ headAt (drop i q)
+head-is q i h =
+    let l = length-drop i q in
+    ap (λ (n : ℕ). wordAt q n * 16777216 + wordAt q (i + 3)) (sym (add-zero i))
+    ∙ rw (← word-drop q i 0, ← word-drop q i 3) (two-words (drop i q) (omega arith))
+
+-- ---- an EP that could have been accepted
+
+module _ (P n h : ℕ) where
+  pub low-short : n < 6 + sizeIn h → 0 ≡ lowIn P n h
+  unfolding lowIn
+  low-short p = rw (lt-leb (6 + sizeIn h) n p)
+
+  module _ (p : 6 + sizeIn h ≤ n) where
+    pub low-long : P < 7 + sizeIn h → 0 ≡ lowIn P n h
+    unfolding lowIn
+    low-long q = rw (le-leb (6 + sizeIn h) n p, lt-leb (7 + sizeIn h) P q)
+
+    module _ (q : 7 + sizeIn h ≤ P) where
+      pub low-other : known (contentIn h) ≡ false → 0 ≡ lowIn P n h
+      unfolding lowIn
+      low-other k = rw (le-leb (6 + sizeIn h) n p, le-leb (7 + sizeIn h) P q, k)
+
+      module _ (k : known (contentIn h) ≡ true) where
+        pub low-changed : (number 0 (header (contentIn h) 0 (sizeIn h)) ≡ h → ⊥) → 0 ≡ lowIn P n h
+        unfolding lowIn
+        low-changed e = rw (le-leb (6 + sizeIn h) n p, le-leb (7 + sizeIn h) P q, k, ne-eqb (number 0 (header (contentIn h) 0 (sizeIn h))) h e)
+
+        pub low-right : number 0 (header (contentIn h) 0 (sizeIn h)) ≡ h → 6 + sizeIn h ≡ lowIn P n h
+        unfolding lowIn
+        low-right e = rw (le-leb (6 + sizeIn h) n p, le-leb (7 + sizeIn h) P q, k, eq-eqb (number 0 (header (contentIn h) 0 (sizeIn h))) h e)
+
+  low-within : lowIn P n h ≤ n
+  unfolding lowIn
+  low-within =
+      cond-case (λ m. m ≤ n) (leb (6 + sizeIn h) n && (leb (7 + sizeIn h) P && (known (contentIn h) && eqb (number 0 (header (contentIn h) 0 (sizeIn h))) h))) (6 + sizeIn h) 0
+      (λ e. leb-true (6 + sizeIn h) n (and-left (leb (6 + sizeIn h) n) _ e)) (λ e. omega arith)
+
+module _ (P : ℕ) (q : List ℕ) where
+  pub low-few : length q < 6 → 0 ≡ lowAt P q
+  unfolding lowAt
+  low-few h = low-short P (length q) (headAt q) (omega arith)
+
+  pub next-fits : (left : ℕ) → lowAt P q < left → lowAt P q ≡ next P q left
+  unfolding next
+  next-fits left h = rw (lt-ltb (lowAt P q) left h)
+
+  pub next-not : (left : ℕ) → left ≤ lowAt P q → 0 ≡ next P q left
+  unfolding next
+  next-not left h = rw (le-ltb (lowAt P q) left h)
+
+  pub next-within : (left : ℕ) → (next P q left ≤ length q) × (0 < next P q left → next P q left < left)
+  unfolding next lowAt
+  next-within left =
+      cond-case (λ n. (n ≤ length q) × (0 < n → n < left)) (ltb (lowAt P q) left) (lowAt P q) 0
+      (λ e. (low-within P (length q) (headAt q), λ p. ltb-true (lowAt P q) left e)) (λ e. (omega arith, λ p. absurd (omega arith)))
+
+  pub over-none : length q ≡ 0 → false ≡ overwritten P q
+  unfolding overwritten
+  over-none h = rw (eq-eqb (length q) 0 h)
+
+  pub over-some : (length q ≡ 0 → ⊥) → eqb (lowAt P q) 0 ≡ overwritten P q
+  unfolding overwritten
+  over-some h = rw (ne-eqb (length q) 0 h)
+
+-- a span counts at most what is queued, and something
+pub span-short : (q : List ℕ) → length q < 6 → length q ≡ span q
+unfolding span
+span-short q h = omega arith
+
+pub span-within : (q : List ℕ) → span q ≤ length q
+unfolding span
+span-within q = omega arith
+
+pub span-some : (q : List ℕ) → 0 < length q → 0 < span q
+unfolding span
+span-some q h = omega arith

@@ -1,0 +1,6 @@
+pub mod Answers
+pub mod Opening
+pub mod Offering
+pub mod Drawing
+pub mod Steps
+pub mod Run

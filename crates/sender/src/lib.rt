@@ -1,0 +1,200 @@
+// The sender: opening, two offers, and the draw.
+ghost use mathlib.Core.Path.{_≡_};
+ghost use Prim.Native.Nat.{_+_};
+ghost use lib.ListN.{length};
+ghost use Rattle.sender.specs.declared.Answer.the-variants.{Done};
+ghost use Rattle.sender.specs.Answers.{lent};
+ghost use Rattle.sender.specs.Opening.{opened, Sound, SoundAnswer};
+ghost use Rattle.sender.specs.Offering.{ordinaryOffered, lowOffered};
+ghost use Rattle.sender.specs.Drawing.{took, drawBy, drew};
+
+mod checks;
+mod eps;
+mod ordinary;
+mod part;
+mod reading;
+
+use queue::Ring;
+
+// Document 01's numbers 1 to 5.
+pub enum Refusal {
+    Limits,
+    Content,
+    Long,
+    Full,
+    Buffer,
+}
+
+// What the opening set: P, the stream, F, and the lengths of the two queue buffers. Public as a type only: its fields are private.
+pub struct Setting {
+    payload: usize,
+    stream: u8,
+    piece: usize,
+    lowspace: usize,
+    space: usize,
+}
+
+// The two queues, the fill bytes owed, and how many bytes at the ordinary queue's head belong to the EP under way.
+pub struct Sender {
+    setting: Setting,
+    low: Ring,
+    ordinary: Ring,
+    owed: usize,
+    rest: usize,
+}
+
+pub enum Answer {
+    Done(Sender),
+    Refused(Refusal),
+}
+
+// Opens a sender over two queue buffers, the low-latency one first.
+pub fn open(tp: usize, stream: u8, piece: usize, low: &[u8], ordinary: &[u8]) -> Answer
+    ensures { λ r. ⌜ r ≡ opened tp stream piece (length (now (low .entry))) (length (now (ordinary .entry))) ⌝ }
+    ensures { λ r. ⌜ SoundAnswer r ⌝ }
+{
+    if !checks::is_allowed(tp, stream, piece) {
+        return Answer::Refused(Refusal::Limits);
+    }
+    if 1048576 < low.len() {
+        return Answer::Refused(Refusal::Limits);
+    }
+    if 1048576 < ordinary.len() {
+        return Answer::Refused(Refusal::Limits);
+    }
+    let setting = Setting {
+        payload: tp - 4,
+        stream,
+        piece,
+        lowspace: low.len(),
+        space: ordinary.len(),
+    };
+    let empty = Ring { head: 0, len: 0 };
+    Answer::Done(Sender {
+        setting,
+        low: empty,
+        ordinary: empty,
+        owed: 0,
+        rest: 0,
+    })
+}
+
+// The buffers' lengths are those of the opening.
+fn is_lent(g: Setting, low: usize, ordinary: usize) -> bool
+    ensures { λ r. ⌜ r ≡ lent g low ordinary ⌝ }
+{
+    if low != g.lowspace {
+        return false;
+    }
+    ordinary == g.space
+}
+
+// Offers an ordinary packet: its EPs are queued, or the first refusal of 1 to 4 that holds is given.
+pub fn offer_ordinary(s: Sender, low: &[u8], ordinary: &mut [u8], content: u8, sp: &[u8]) -> Answer
+    requires { ⌜ Sound s ⌝ }
+    ensures { λ r. ⌜ record { answer = r; buffer = now (ordinary .exit) } ≡ ordinaryOffered s (now (low .entry)) (now (ordinary .entry)) content (now (sp .entry)) ⌝ }
+    ensures { λ r. ⌜ SoundAnswer r ⌝ }
+{
+    let g = s.setting;
+    let q = s.ordinary;
+    if !is_lent(g, low.len(), ordinary.len()) {
+        return Answer::Refused(Refusal::Limits);
+    }
+    if !checks::is_known(content) {
+        return Answer::Refused(Refusal::Content);
+    }
+    if 131072 < sp.len() {
+        return Answer::Refused(Refusal::Long);
+    }
+    if g.space - q.len < eps::needed(content, sp, g.piece) {
+        return Answer::Refused(Refusal::Full);
+    }
+    let t = eps::put_sp(ordinary, q, content, sp, g.piece);
+    let l = s.low;
+    Answer::Done(Sender {
+        setting: g,
+        low: l,
+        ordinary: t,
+        owed: s.owed,
+        rest: s.rest,
+    })
+}
+
+// Offers a low-latency packet: one EP is queued, or the first refusal of 1 to 4 that holds is given.
+pub fn offer_low(s: Sender, low: &mut [u8], ordinary: &[u8], content: u8, sp: &[u8]) -> Answer
+    requires { ⌜ Sound s ⌝ }
+    ensures { λ r. ⌜ record { answer = r; buffer = now (low .exit) } ≡ lowOffered s (now (low .entry)) (now (ordinary .entry)) content (now (sp .entry)) ⌝ }
+    ensures { λ r. ⌜ SoundAnswer r ⌝ }
+{
+    let g = s.setting;
+    let q = s.low;
+    if !is_lent(g, low.len(), ordinary.len()) {
+        return Answer::Refused(Refusal::Limits);
+    }
+    if !checks::is_known(content) {
+        return Answer::Refused(Refusal::Content);
+    }
+    if g.payload - 7 < sp.len() {
+        return Answer::Refused(Refusal::Long);
+    }
+    if g.lowspace - q.len < 6 + sp.len() {
+        return Answer::Refused(Refusal::Full);
+    }
+    let t = eps::put_ep(low, q, content, 0, sp);
+    let o = s.ordinary;
+    Answer::Done(Sender {
+        setting: g,
+        low: t,
+        ordinary: o,
+        owed: s.owed,
+        rest: s.rest,
+    })
+}
+
+// Fills a TP. The header comes last, since what is behind it says what it says.
+fn filled(s: Sender, low: &[u8], ordinary: &[u8], tp: &mut [u8]) -> Sender
+    requires { ⌜ Sound s ⌝ }
+    requires { ⌜ (length (now low) ≡ s .setting .lowspace) × (length (now ordinary) ≡ s .setting .space) × (length (now tp) ≡ s .setting .payload + 4) ⌝ }
+    ensures { λ r. ⌜ record { answer = Done r; buffer = now (tp .exit) } ≡ took s (drawBy s (now (low .entry)) (now (ordinary .entry))) ⌝ }
+    ensures { λ r. ⌜ Sound r ⌝ }
+{
+    let g = s.setting;
+    let l = s.low;
+    let q = s.ordinary;
+    let p = part::low_part(g.payload, low, l, tp);
+    let at = p.at;
+    let t = p.ring;
+    let o = ordinary::ordinary_part(ordinary, q, s.owed, tp, at);
+    let u = o.ring;
+    let offset = ordinary::offset_of(at - 4, s.owed + s.rest, g.payload + 4 - at);
+    let h = wire::tp_header_of(g.stream, 4 < at, offset);
+    queue::copy_at(tp, 0, &h);
+    let rest = ordinary::rest_after(ordinary, q, s.rest, o.gone);
+    Sender {
+        setting: g,
+        low: t,
+        ordinary: u,
+        owed: o.owed,
+        rest,
+    }
+}
+
+// Draws a TP. The queues are lent as they are, so that only the sender's rings move.
+pub fn draw(s: Sender, low: &[u8], ordinary: &[u8], tp: &mut [u8]) -> Answer
+    requires { ⌜ Sound s ⌝ }
+    ensures { λ r. ⌜ record { answer = r; buffer = now (tp .exit) } ≡ drew s (now (low .entry)) (now (ordinary .entry)) (now (tp .entry)) ⌝ }
+    ensures { λ r. ⌜ SoundAnswer r ⌝ }
+{
+    let g = s.setting;
+    let l = s.low;
+    if !is_lent(g, low.len(), ordinary.len()) {
+        return Answer::Refused(Refusal::Limits);
+    }
+    if reading::is_overwritten(g.payload, low, l) {
+        return Answer::Refused(Refusal::Limits);
+    }
+    if tp.len() != g.payload + 4 {
+        return Answer::Refused(Refusal::Buffer);
+    }
+    Answer::Done(filled(s, low, ordinary, tp))
+}

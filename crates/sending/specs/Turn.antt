@@ -1,0 +1,67 @@
+-- What the sending program does with each record (document 01, 'Records and programs'): one record in, records out.
+-- The output block takes what is written; a draw that finds no room in it waits, so the program empties it first. Assumes nothing.
+use Prim.Native.Nat.{ℕ, _+_}
+use mathlib.Core.Bool.{cond}
+use mathlib.Core.List.{List}
+use lib.Dec.{leb}
+use lib.ListN.{length, take, drop}
+use Rattle.block.specs.Block.{Block, placed, put}
+use Rattle.house.specs.Records.{recordBytes}
+use Rattle.house.specs.declared.Record.{Record}
+use Rattle.house.specs.declared.Record.the-variants.{Setup, Ordinary, Low, Draw, Packet, Gap}
+use Rattle.sender.specs.Answers.{Left}
+use Rattle.sender.specs.Offering.{ordinaryOffered, lowOffered}
+use Rattle.sender.specs.Drawing.{drew}
+use Rattle.sender.specs.declared.Sender.{Sender}
+use Rattle.sender.specs.declared.Answer.{Answer}
+use Rattle.sender.specs.declared.Answer.the-variants.{Done, Refused}
+
+-- "A refused offer is skipped."
+abbrev pub kept : Answer → Sender → Sender
+kept (Done t) s = t
+kept (Refused k) s = s
+
+-- the draw is lent the block's bytes behind its record's head, and leaves b there; a drawn TP goes out as a record of kind 4
+abbrev pub wrote : Answer → List ℕ → ℕ → List ℕ → ℕ → Block
+wrote (Done t) b tp out at = put out at (recordBytes (Packet tp) b)
+wrote (Refused k) b tp out at = record { bytes = placed out (at + 8) b; at = at }
+
+pub record Drawn : Type 0 where
+  pub sender : Sender
+  pub block : Block
+
+abbrev pub drawnBy : Left → Sender → ℕ → List ℕ → ℕ → Drawn
+drawnBy l s tp out at = record { sender = kept (l .answer) s; block = wrote (l .answer) (l .buffer) tp out at }
+
+unfoldable pub drawnOf : Sender → List ℕ → List ℕ → ℕ → List ℕ → ℕ → Drawn
+drawnOf s low ordinary tp out at =
+    cond (leb (at + 8 + tp) (length out))
+    (drawnBy (drew s low ordinary (take tp (drop (at + 8) out))) s tp out at)
+    (record { sender = s; block = record { bytes = out; at = at } })
+
+-- what a turn leaves: the sender, both queues, the output block
+pub record After : Type 0 where
+  pub sender : Sender
+  pub low : List ℕ
+  pub ordinary : List ℕ
+  pub block : Block
+
+-- an SP is offered; a draw draws one TP; the other kinds do nothing, and are not read here
+abbrev pub turnOf : Record → Sender → List ℕ → List ℕ → List ℕ → ℕ → Block → After
+turnOf Setup s d low ordinary tp o = record { sender = s; low = low; ordinary = ordinary; block = o }
+turnOf (Ordinary c n) s d low ordinary tp o =
+    let l = ordinaryOffered s low ordinary c d in
+    record { sender = kept (l .answer) s; low = low; ordinary = l .buffer; block = o }
+turnOf (Low c n) s d low ordinary tp o =
+    let l = lowOffered s low ordinary c d in
+    record { sender = kept (l .answer) s; low = l .buffer; ordinary = ordinary; block = o }
+turnOf Draw s d low ordinary tp o =
+    let l = drawnOf s low ordinary tp (o .bytes) (o .at) in
+    record { sender = l .sender; low = low; ordinary = ordinary; block = l .block }
+turnOf (Packet n) s d low ordinary tp o = record { sender = s; low = low; ordinary = ordinary; block = o }
+turnOf Gap s d low ordinary tp o = record { sender = s; low = low; ordinary = ordinary; block = o }
+
+-- the setup record is written again as it was
+unfoldable pub begun : List ℕ → List ℕ → Block
+begun five out =
+    cond (leb 13 (length out)) (put out 0 (recordBytes Setup five)) (record { bytes = out; at = 0 })
