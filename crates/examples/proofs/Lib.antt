@@ -1,1 +1,2 @@
+pub mod Sixth
 pub mod Checked

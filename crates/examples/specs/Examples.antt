@@ -3,29 +3,72 @@
 use mathlib.Core.Path.{_≡_}
 use mathlib.Core.List.{List, [], _∷_}
 use Prim.Native.Nat.{ℕ}
+use lib.ListN.{replicate}
 use Rattle.golay.specs.Golay.{codeWord}
 use Rattle.golay.specs.Answers.{Decodes, endOf}
 use Rattle.golay.specs.declared.Decoded.{Decoded}
 use Rattle.golay.specs.declared.Decoded.the-variants.{Word, Beyond}
 use Rattle.golay.specs.declared.End.{End}
 use Rattle.golay.specs.declared.End.the-variants.{Zeros, Ones, Neither}
+use Rattle.sender.specs.Opening.{fresh}
+use Rattle.sender.specs.Offering.{pieces}
+use Rattle.sender.specs.Run.{Call, ordinary, low, draw, World, Out, refused, took, tookLow, drawn, outs}
+use Rattle.receiver.specs.Frame.{lost}
+use Rattle.receiver.specs.Join as J
+use Rattle.receiver.specs.Join.{Finding, free}
+use Rattle.receiver.specs.Low.{wire}
+use Rattle.receiver.specs.Tp.{Input, tpIn, listingAll}
 
--- what an example can say: a number's code word; what a word is read as; what an end byte means
+-- a sender of TP length 16, stream 0, F of 65,535, with two queues of 32 bytes
+abbrev pub opened : World
+opened = record { sender = fresh 16 0 65535 32 32; low = replicate 32 0; ordinary = replicate 32 0 }
+
+-- the TPs that it gives in a run of calls
+abbrev pub tps : List Out → List (List ℕ)
+tps [] = []
+tps (refused k ∷ os) = tps os
+tps (took c d ∷ os) = tps os
+tps (tookLow c d ∷ os) = tps os
+tps (drawn b l ∷ os) = b ∷ tps os
+
+-- the finds of a receiver of the same settings, with a room of one byte
+abbrev pub inputs : List (List ℕ) → List Input
+inputs [] = []
+inputs (b ∷ bs) = tpIn b ∷ inputs bs
+
+abbrev pub read : List (List ℕ) → List (Finding wire)
+read bs = listingAll (record { size = 16; stream = 0; room = 1 }) (record { frame = lost; held = free }) (inputs bs) .0
+
+-- what an example can say: a number's code word; what a word is read as; what an end byte means; the EPs of an SP with fragment
+-- size F; the TPs that calls give; the finds that TPs give
 pub data Example : Type 0 where
   encodes : ℕ → ℕ → Example
   decodes : ℕ → Decoded → Example
   ends : ℕ → End → Example
+  cuts : ℕ → ℕ → List ℕ → List (List ℕ) → Example
+  sends : List Call → List (List ℕ) → Example
+  reads : List (List ℕ) → List (Finding wire) → Example
 
 abbrev pub Holds : Example → Type 0
 Holds (encodes n w) = codeWord n ≡ w
 Holds (decodes w r) = Decodes w r
 Holds (ends b r) = endOf b ≡ r
+Holds (cuts F c d es) = pieces F c d ≡ es
+Holds (sends cs bs) = tps (outs opened cs) ≡ bs
+Holds (reads bs fs) = read bs ≡ fs
 
 -- all of a list hold
 infixr 5 _and_
 pub data Hold : List Example → Type 0 where
   done : Hold []
   _and_ : {x : Example} {xs : List Example} → Holds x → Hold xs → Hold (x ∷ xs)
+
+-- the TPs of example 6
+abbrev pub sixth : List (List ℕ)
+sixth =
+    (0x00 ∷ 0x80 ∷ 0x99 ∷ 0x58 ∷ 0x04 ∷ 0x0D ∷ 0x99 ∷ 0x00 ∷ 0x29 ∷ 0x3E ∷ 0x11 ∷ 0x22 ∷ 0x00 ∷ 0x10 ∷ 0x07 ∷ 0xB4 ∷ [])
+    ∷ (0x00 ∷ 0x00 ∷ 0x4A ∷ 0x97 ∷ 0x00 ∷ 0x18 ∷ 0xEB ∷ 0x33 ∷ 0x00 ∷ 0x00 ∷ 0x00 ∷ 0x00 ∷ 0x29 ∷ 0x3E ∷ 0xAA ∷ 0xAA ∷ [])
+    ∷ []
 
 abbrev pub examples : List Example
 examples =
@@ -39,4 +82,12 @@ examples =
     ∷ ends 0x07 Zeros
     ∷ ends 0x0F Neither
     ∷ ends 0x1F Ones
+    ∷ cuts 2 1 (0x11 ∷ 0x22 ∷ 0x33 ∷ [])
+    ((0x05 ∷ 0x0E ∷ 0xFE ∷ 0x00 ∷ 0x29 ∷ 0x3E ∷ 0x11 ∷ 0x22 ∷ []) ∷ (0x07 ∷ 0x08 ∷ 0x33 ∷ 0x00 ∷ 0x18 ∷ 0xEB ∷ 0x33 ∷ []) ∷ [])
+    ∷ sends (low 1 (0x11 ∷ 0x22 ∷ []) ∷ ordinary 4 (0x33 ∷ []) ∷ draw ∷ draw ∷ []) sixth
+    ∷ reads sixth (J.low 1 (0x11 ∷ 0x22 ∷ []) ∷ J.ordinary 4 (0x33 ∷ []) ∷ [])
+    ∷ sends (ordinary 1 (0x11 ∷ 0x22 ∷ []) ∷ draw ∷ draw ∷ [])
+    ((0x00 ∷ 0x00 ∷ 0x00 ∷ 0x00 ∷ 0x04 ∷ 0x0D ∷ 0x99 ∷ 0x00 ∷ 0x29 ∷ 0x3E ∷ 0x11 ∷ 0x22 ∷ 0x00 ∷ 0x00 ∷ 0x00 ∷ 0x00 ∷ [])
+    ∷ (0x00 ∷ 0x00 ∷ 0x29 ∷ 0x3E ∷ 0x00 ∷ 0x00 ∷ 0x00 ∷ 0x00 ∷ 0x00 ∷ 0x00 ∷ 0x4A ∷ 0x97 ∷ 0xAA ∷ 0xAA ∷ 0xAA ∷ 0xAA ∷ [])
+    ∷ [])
     ∷ []

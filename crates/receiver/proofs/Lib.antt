@@ -25,4 +25,3 @@ pub mod Tracing
 pub mod Handing
 pub mod OnePacket
 pub mod HandedOut
-pub mod Examples

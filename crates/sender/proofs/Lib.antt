@@ -20,4 +20,3 @@ pub mod RunOffers
 pub mod RunDraws
 pub mod RunCalls
 pub mod Laws
-pub mod Examples

@@ -1,0 +1,146 @@
+-- Calls until the TP ends, of any number of TPs, give what the definition of whole TPs lists: the receiver's own theorem on its life,
+-- for the calls of the statement. Assumes nothing.
+use mathlib.Core.Path.{_≡_, refl, sym, ap₂, _∙_, subst, subst⁻¹}
+use mathlib.Core.Bool.{Bool, true, false, _&&_}
+use mathlib.Core.List.{List, [], _∷_, _++_, append-nil}
+use Prim.Native.Nat.{ℕ}
+use native.Mathlib.Omega.{arith}
+use lib.Dec.{leb}
+use borrow.Author.Tests.{le-leb, leb-true}
+use Rattle.receiver.specs.declared.Find.{Find}
+use Rattle.receiver.specs.declared.Find.the-variants as F
+use Rattle.receiver.specs.Join.{Finding, notice, low, ordinary}
+use Rattle.receiver.specs.Low.{wire}
+use Rattle.receiver.specs.Call.{dataOf}
+use Rattle.receiver.proofs.Ending.{Ended}
+use Rattle.receiver.proofs.Rest.{saying}
+use Rattle.receiver.proofs.Called as C
+use Rattle.receiver.proofs.Listening as N
+use Rattle.downlink.specs.Hearing.{Place, Called, onward, ends, Either, Calls, Hears, Packet, inTp, handedOut}
+use Rattle.downlink.specs.Hearing as H
+use Rattle.downlink.proofs.Joins.{packets, packets-append}
+use Rattle.downlink.proofs.Listen.{lowsOf, lows-append, inputs}
+
+-- a find, as the definition of a whole TP tells it
+abbrev findingOf : Find → List ℕ → List (Finding wire)
+findingOf F.Nothing d = []
+findingOf F.Refused d = []
+findingOf (F.Notice n) d = notice n ∷ []
+findingOf (F.Low c start n) d = low c d ∷ []
+findingOf (F.Ordinary c n) d = ordinary c d ∷ []
+
+abbrev pub findings : List ℕ → List Called → List (Finding wire)
+findings tp [] = []
+findings tp (c ∷ cs) = findingOf (c .step .find) (dataOf (c .step .find) tp (c .room)) ++ findings tp cs
+
+-- ---- by sort
+
+low-of : (f : Find) (d : List ℕ) → H.low f d ≡ lowsOf (findingOf f d)
+low-of F.Nothing d = refl
+low-of F.Refused d = refl
+low-of (F.Notice n) d = refl
+low-of (F.Low c start n) d = refl
+low-of (F.Ordinary c n) d = refl
+
+ordinary-of : (f : Find) (d : List ℕ) → H.ordinary f d ≡ packets wire (findingOf f d)
+ordinary-of F.Nothing d = refl
+ordinary-of F.Refused d = refl
+ordinary-of (F.Notice n) d = refl
+ordinary-of (F.Low c start n) d = refl
+ordinary-of (F.Ordinary c n) d = refl
+
+pub lows-in : (tp : List ℕ) (cs : List Called) → inTp H.low tp cs ≡ lowsOf (findings tp cs)
+lows-in tp [] = refl
+lows-in tp (c ∷ cs) =
+    let d = dataOf (c .step .find) tp (c .room) in
+    ap₂ (λ (a b : List Packet). a ++ b) (low-of (c .step .find) d) (lows-in tp cs) ∙ sym (lows-append (findingOf (c .step .find) d) (findings tp cs))
+
+pub ordinaries-in : (tp : List ℕ) (cs : List Called) → inTp H.ordinary tp cs ≡ packets wire (findings tp cs)
+ordinaries-in tp [] = refl
+ordinaries-in tp (c ∷ cs) =
+    let d = dataOf (c .step .find) tp (c .room) in
+    ap₂ (λ (a b : List Packet). a ++ b) (ordinary-of (c .step .find) d) (ordinaries-in tp cs)
+    ∙ sym (packets-append wire (findingOf (c .step .find) d) (findings tp cs))
+
+abbrev pub allFindings : List (List ℕ) → List (List Called) → List (Finding wire)
+allFindings [] css = []
+allFindings (tp ∷ tps) [] = []
+allFindings (tp ∷ tps) (cs ∷ css) = findings tp cs ++ allFindings tps css
+
+pub lows-out : (tps : List (List ℕ)) (css : List (List Called)) → handedOut H.low tps css ≡ lowsOf (allFindings tps css)
+lows-out [] css = refl
+lows-out (tp ∷ tps) [] = refl
+lows-out (tp ∷ tps) (cs ∷ css) =
+    ap₂ (λ (a b : List Packet). a ++ b) (lows-in tp cs) (lows-out tps css) ∙ sym (lows-append (findings tp cs) (allFindings tps css))
+
+pub ordinaries-out : (tps : List (List ℕ)) (css : List (List Called)) → handedOut H.ordinary tps css ≡ packets wire (allFindings tps css)
+ordinaries-out [] css = refl
+ordinaries-out (tp ∷ tps) [] = refl
+ordinaries-out (tp ∷ tps) (cs ∷ css) =
+    ap₂ (λ (a b : List Packet). a ++ b) (ordinaries-in tp cs) (ordinaries-out tps css) ∙ sym (packets-append wire (findings tp cs) (allFindings tps css))
+
+-- ---- the receiver's words for it
+
+saying-is : (cap : ℕ) (f : Find) (d : List ℕ) → saying cap f d ≡ findingOf f d
+saying-is cap F.Nothing d = refl
+saying-is cap F.Refused d = refl
+saying-is cap (F.Notice n) d = refl
+saying-is cap (F.Low c start n) d = refl
+saying-is cap (F.Ordinary c n) d = refl
+
+both : (a b : Bool) → a && b ≡ true → (a ≡ true) × (b ≡ true)
+both true true e = (refl, refl)
+both true false e = (refl, e)
+both false b e = (e, cc)
+
+ended : (f : Find) → ends f ≡ true → Ended f
+ended F.Nothing e = omega arith
+ended F.Refused e = omega arith
+ended (F.Notice n) e = let p = both (leb 6 n) (leb n 9) e in (leb-true 6 n (p .0), leb-true n 9 (p .1))
+ended (F.Low c start n) e = let z : _≡_ {A = ℕ} 0 1 = cc in omega arith
+ended (F.Ordinary c n) e = let z : _≡_ {A = ℕ} 0 1 = cc in omega arith
+
+pub not-ended : (f : Find) → ends f ≡ false → Ended f → ⊥
+not-ended F.Nothing e q = let z : _≡_ {A = ℕ} 0 1 = cc in omega arith
+not-ended F.Refused e q = let z : _≡_ {A = ℕ} 0 1 = cc in omega arith
+not-ended (F.Notice n) e q =
+    let t : leb 6 n && leb n 9 ≡ true = rw (le-leb 6 n (q .0), le-leb n 9 (q .1)) in
+    let z : _≡_ {A = ℕ} 0 1 = cc in
+    omega arith
+not-ended (F.Low c start n) e q = omega arith
+not-ended (F.Ordinary c n) e q = omega arith
+
+calls-are : (tp : List ℕ) (cs : List Called) (x : Place) → Calls tp x cs
+    → C.Calls tp (x .receiver) (x .room) (findings tp cs) (onward x cs .receiver) (onward x cs .room)
+calls-are tp [] x calls = absurd calls
+calls-are tp (c ∷ cs) x (gives, then) = go (ends (c .step .find)) refl then (λ z. calls-are tp cs (record { receiver = c .step .receiver; room = c .room }) z)
+  where
+    x′ : Place
+    x′ = record { receiver = c .step .receiver; room = c .room }
+
+    d : List ℕ
+    d = dataOf (c .step .find) tp (c .room)
+
+    said : saying (x .receiver .limit) (c .step .find) d ≡ findingOf (c .step .find) d
+    said = saying-is (x .receiver .limit) (c .step .find) d
+
+    go : (t : Bool) → ends (c .step .find) ≡ t → Either t (cs ≡ []) (Calls tp x′ cs)
+        → (Calls tp x′ cs → C.Calls tp (x′ .receiver) (x′ .room) (findings tp cs) (onward x′ cs .receiver) (onward x′ cs .room))
+        → C.Calls tp (x .receiver) (x .room) (findingOf (c .step .find) d ++ findings tp cs) (onward x′ cs .receiver) (onward x′ cs .room)
+    go true e none ih =
+        subst⁻¹ (λ (ys : List Called). C.Calls tp (x .receiver) (x .room) (findingOf (c .step .find) d ++ findings tp ys) (onward x′ ys .receiver) (onward x′ ys .room)) none
+        (subst (λ (fs : List (Finding wire)). C.Calls tp (x .receiver) (x .room) fs (c .step .receiver) (c .room)) (said ∙ sym (append-nil (findingOf (c .step .find) d)))
+        (C.last gives (ended (c .step .find) e)))
+    go false e more ih =
+        subst (λ (fs : List (Finding wire)). C.Calls tp (x .receiver) (x .room) (fs ++ findings tp cs) (onward x′ cs .receiver) (onward x′ cs .room)) said
+        (C.more gives (not-ended (c .step .find) e) (ih more))
+
+-- all TPs, and where the receiver stands at the end
+pub lives : (tps : List (List ℕ)) (css : List (List Called)) (x : Place) → Hears x tps css
+    → (y : Place) × N.Life (x .receiver) (x .room) (inputs tps) (allFindings tps css) (y .receiver) (y .room)
+lives [] [] x hears = (x, N.over)
+lives [] (cs ∷ css) x hears = absurd hears
+lives (tp ∷ tps) [] x hears = absurd hears
+lives (tp ∷ tps) (cs ∷ css) x hears =
+    let l = lives tps css (onward x cs) (hears .1) in
+    (l .0, N.tp-on (calls-are tp cs x (hears .0)) (l .1))

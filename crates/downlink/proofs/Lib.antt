@@ -1,0 +1,33 @@
+-- the window lemma: reading any stretch of a stream of EPs from out of step; and gaps in the middle
+pub mod Within
+pub mod Window
+pub mod Trains
+pub mod Cut
+pub mod Joins
+pub mod Items
+pub mod Gaps
+-- the sender over any calls: what its TPs carry
+pub mod Heads
+pub mod Marks
+pub mod Lows
+pub mod Loads
+pub mod Fills
+pub mod Taken
+pub mod Holds
+pub mod Draws
+pub mod Runs
+-- the receiver over damaged TPs
+pub mod Repair
+pub mod Arrive
+pub mod Streams
+pub mod See
+pub mod Listen
+pub mod Calling
+-- demand 3
+pub mod Stretch
+pub mod Demanded
+-- beside it: calls end; no damage is within the limits; a packet's own places; who is shut out
+pub mod Soon
+pub mod Intact
+pub mod Places
+pub mod Examples

@@ -1,0 +1,212 @@
+-- What the receiver makes of the damaged TPs of a run, one after the other: the low-latency packets that they carry, and what
+-- the window lemma says of the stretch of ordinary bytes that they carry. Assumes nothing.
+use Prim.Native.Nat.{ℕ, zero, suc, _+_, _-_, _≤_}
+use mathlib.Core.Path.{_≡_, refl, sym, ap, ap₂, _∙_}
+use mathlib.Core.Bool.{Bool, true, false, cond}
+use mathlib.Core.Option.{none, some}
+use mathlib.Core.List.{List, [], _∷_, _++_, append-nil}
+use native.Mathlib.Omega.{arith}
+use lib.Dec.{leb, eqb}
+use lib.ListN.{length, take, drop}
+use Rattle.sender.specs.Drawing as D
+use Rattle.receiver.specs.declared.kind.Kind.{Kind}
+use Rattle.receiver.specs.declared.kind.Kind.the-variants.{Fill, Reserved, Complete, First, Middle, Last}
+use Rattle.receiver.specs.Frame.{Frame, Event, lose, opened, entered, fed, closed, Out}
+use Rattle.receiver.specs.Join.{Finding, notice, low, ordinary, Held, free, held, Took, broken, goes-on, meets, handed, finish, told, fits, further, admit, take-in, listed, holding, finds}
+use Rattle.receiver.specs.Low.{wire}
+use Rattle.receiver.specs.Tp.{Setting, Heard, Stand, Input, tpIn, inputOf, listing, listingAll}
+use Rattle.downlink.specs.Run.{Tp}
+use Rattle.downlink.specs.Damage.{TpNear, TpsNear}
+use Rattle.downlink.specs.Hearing.{Packet}
+use Rattle.downlink.specs.Demand.{lowsIn}
+use Rattle.downlink.proofs.Window.{bytes, before, part}
+use Rattle.downlink.proofs.Window as W
+use Rattle.downlink.proofs.Joins.{packets, packets-append, finds-append}
+use Rattle.downlink.proofs.Marks.{Cells}
+use Rattle.downlink.proofs.Lows.{lleps}
+use Rattle.downlink.proofs.Loads.{Load, TpIs, TpsAre}
+use Rattle.downlink.proofs.Arrive.{mix, mix-length}
+use Rattle.downlink.proofs.See.{lowsFound, own, own-length, heard-is}
+
+-- ---- sorting finds
+
+abbrev pub lowsOf : List (Finding wire) → List Packet
+lowsOf [] = []
+lowsOf (notice n ∷ fs) = lowsOf fs
+lowsOf (low c d ∷ fs) = (c, d) ∷ lowsOf fs
+lowsOf (ordinary c d ∷ fs) = lowsOf fs
+
+abbrev pub inputs : List (List ℕ) → List Input
+inputs [] = []
+inputs (r ∷ rs) = tpIn r ∷ inputs rs
+
+pub lows-append : (xs ys : List (Finding wire)) → lowsOf (xs ++ ys) ≡ lowsOf xs ++ lowsOf ys
+lows-append [] ys = refl
+lows-append (notice n ∷ xs) ys = lows-append xs ys
+lows-append (low c d ∷ xs) ys = ap (λ l. (c, d) ∷ l) (lows-append xs ys)
+lows-append (ordinary c d ∷ xs) ys = lows-append xs ys
+
+packets-lows : (ps : List Packet) (bs : List ℕ) → packets wire (lowsFound ps bs) ≡ []
+packets-lows [] bs = refl
+packets-lows (p ∷ ps) bs = packets-lows ps (drop (7 + length (p .1)) bs)
+
+lows-lows : (ps : List Packet) (bs : List ℕ) → lowsOf (lowsFound ps bs) ≡ lowsIn ps bs
+lows-lows [] bs = refl
+lows-lows (p ∷ ps) bs = ap (λ l. (p .0, take (length (p .1)) (drop 6 bs)) ∷ l) (lows-lows ps (drop (7 + length (p .1)) bs))
+
+-- ---- ordinary bytes give no low-latency packet
+
+module _ (room : ℕ) where
+  abbrev lone : Took wire → List Packet
+  lone t = lowsOf (listed wire (t .1))
+
+  lone-cond : (b : Bool) (x y : Took wire) → lone x ≡ [] → lone y ≡ [] → lone (cond b x y) ≡ []
+  lone-cond true x y p q = p
+  lone-cond false x y p q = q
+
+  lone-broken : (s : Held wire) → lone (broken wire s) ≡ []
+  lone-broken free = refl
+  lone-broken (held c d) = refl
+
+  lone-goes : (s : Held wire) (c : ℕ) → lone (goes-on wire s c) ≡ []
+  lone-goes free c = refl
+  lone-goes (held c₀ d) c = lone-cond (eqb c₀ c) (held c₀ d, none) (free, some (notice 14)) refl refl
+
+  lone-meets : (k : Kind) (s : Held wire) (c : ℕ) → lone (meets wire k s c) ≡ []
+  lone-meets Fill s c = lone-broken s
+  lone-meets Reserved s c = lone-broken s
+  lone-meets Complete s c = lone-broken s
+  lone-meets First s c = lone-broken s
+  lone-meets Middle s c = lone-goes s c
+  lone-meets Last s c = lone-goes s c
+
+  lone-fits : (n c : ℕ) (d : List ℕ) → lone (fits wire room n c d) ≡ []
+  lone-fits n c d = lone-cond (leb (length d + n) room) (held c d, none) (free, some (notice 15)) refl refl
+
+  lone-further : (s : Held wire) (n : ℕ) → lone (further wire room s n) ≡ []
+  lone-further free n = refl
+  lone-further (held c d) n = lone-fits n c d
+
+  lone-admit : (k : Kind) (s : Held wire) (c n : ℕ) → lone (admit wire room k s c n) ≡ []
+  lone-admit Fill s c n = refl
+  lone-admit Reserved s c n = refl
+  lone-admit Complete s c n = lone-fits n c []
+  lone-admit First s c n = lone-fits n c []
+  lone-admit Middle s c n = lone-further s n
+  lone-admit Last s c n = lone-further s n
+
+  lone-handed : (s : Held wire) → lone (handed wire s) ≡ []
+  lone-handed free = refl
+  lone-handed (held c d) = refl
+
+  lone-finish : (k : Kind) (s : Held wire) → lone (finish wire k s) ≡ []
+  lone-finish Fill s = refl
+  lone-finish Reserved s = refl
+  lone-finish Complete s = lone-handed s
+  lone-finish First s = refl
+  lone-finish Middle s = refl
+  lone-finish Last s = lone-handed s
+
+  lone-told : (n : ℕ) → lowsOf (listed wire (told wire n)) ≡ []
+  lone-told zero = refl
+  lone-told (suc n) = refl
+
+  lone-event : (s : Held wire) (e : Event wire) → lone (take-in wire room s e) ≡ []
+  lone-event s (lose n) = lone-told n
+  lone-event s (opened h) = lone-meets (wire .kind h) s (wire .content h)
+  lone-event s (entered h) = lone-admit (wire .kind h) s (wire .content h) (wire .size h)
+  lone-event s (fed b) = refl
+  lone-event s (closed h) = lone-finish (wire .kind h) s
+
+  pub no-lows : (s : Held wire) (es : List (Event wire)) → lowsOf (finds wire room s es) ≡ []
+  no-lows s [] = refl
+  no-lows s (e ∷ es) =
+      lows-append (listed wire (take-in wire room s e .1)) (finds wire room (take-in wire room s e .0) es)
+      ∙ ap₂ (λ (a b : List Packet). a ++ b) (lone-event s e) (no-lows (take-in wire room s e .0) es)
+
+-- ---- TP by TP
+
+abbrev pub cellsOf : Load → List ℕ → Cells
+cellsOf l r = mix (l .own) (drop (4 + length (D.part (lleps (l .now)))) r)
+
+abbrev pub chunks : List Load → List (List ℕ) → List Cells
+chunks [] rs = []
+chunks (l ∷ ls) [] = []
+chunks (l ∷ ls) (r ∷ rs) = cellsOf l r ∷ chunks ls rs
+
+abbrev pub lowsHeard : List Load → List (List ℕ) → List Packet
+lowsHeard [] rs = []
+lowsHeard (l ∷ ls) [] = []
+lowsHeard (l ∷ ls) (r ∷ rs) = lowsIn (l .now) (drop 4 r) ++ lowsHeard ls rs
+
+pub before-mix : (cs : Cells) (bs : List ℕ) → length cs ≡ length bs → before wire (mix cs bs) ≡ before wire cs
+before-mix [] bs p = refl
+before-mix (c ∷ cs) [] p = absurd (omega arith)
+before-mix ((true, x) ∷ cs) (b ∷ bs) p = refl
+before-mix ((false, x) ∷ cs) (b ∷ bs) p = ap suc (before-mix cs bs (omega arith))
+
+pub bytes-mix : (cs : Cells) (bs : List ℕ) → length cs ≡ length bs → bytes wire (mix cs bs) ≡ bs
+bytes-mix [] [] p = refl
+bytes-mix [] (b ∷ bs) p = absurd (omega arith)
+bytes-mix (c ∷ cs) [] p = absurd (omega arith)
+bytes-mix (c ∷ cs) (b ∷ bs) p = ap (λ l. b ∷ l) (bytes-mix cs bs (omega arith))
+
+module _ (size str F P room : ℕ) (top : P ≤ 2047) (size-is : size ≡ 4 + P) (str-most : str ≤ 15) where
+  abbrev pub S : Setting
+  S = record { size = size; stream = str; room = room }
+
+  abbrev step : Frame wire → Cells → Out wire
+  step f m = part wire f (before wire m) (bytes wire m)
+
+  module _ (t : Tp) (l : Load) (is : TpIs P str F top t l) (r : List ℕ) (near : TpNear t r) where
+    one-tp : (f : Frame wire) → inputOf S f (tpIn r) ≡ record { lows = lowsFound (l .now) (drop 4 r); told = step f (cellsOf l r) .1; frame = step f (cellsOf l r) .0 }
+    one-tp f =
+        let bs : List ℕ = own size str F P room top size-is str-most t l is r near in
+        let same : length (l .own) ≡ length bs = sym (own-length size str F P room top size-is str-most t l is r near) in
+        heard-is size str F P room top size-is str-most t l is r near f
+        ∙ ap₂ (λ (a : ℕ) (b : List ℕ). record { lows = lowsFound (l .now) (drop 4 r); told = part wire f a b .1; frame = part wire f a b .0 })
+        (sym (before-mix (l .own) bs same)) (sym (bytes-mix (l .own) bs same))
+
+    pub cells-length : length (cellsOf l r) ≡ length (l .own)
+    cells-length =
+        let e = own-length size str F P room top size-is str-most t l is r near in
+        mix-length (l .own) (own size str F P room top size-is str-most t l is r near) (omega arith)
+
+  -- low-latency packets: those that the TPs carry
+  pub got-lows : (x : Stand) (ts : List Tp) (ls : List Load) (rs : List (List ℕ)) → TpsAre P str F top ts ls → TpsNear ts rs
+      → lowsOf (listingAll S x (inputs rs) .0) ≡ lowsHeard ls rs
+  got-lows x [] [] [] is near = refl
+  got-lows x [] (l ∷ ls) rs is near = absurd is
+  got-lows x [] [] (r ∷ rs) is near = absurd near
+  got-lows x (t ∷ ts) [] rs is near = absurd is
+  got-lows x (t ∷ ts) (l ∷ ls) [] is near = absurd near
+  got-lows x (t ∷ ts) (l ∷ ls) (r ∷ rs) is near =
+      let h = inputOf S (x .frame) (tpIn r) in
+      let x′ : Stand = listing S x h .1 in
+      let fs = finds wire room (x .held) (h .told) in
+      lows-append (h .lows ++ fs) (listingAll S x′ (inputs rs) .0)
+      ∙ ap₂ (λ (a b : List Packet). a ++ b)
+      (lows-append (h .lows) fs ∙ ap (λ l. lowsOf (h .lows) ++ l) (no-lows room (x .held) (h .told)) ∙ append-nil (lowsOf (h .lows))
+      ∙ ap (λ (y : Heard). lowsOf (y .lows)) (one-tp t l (is .0) r (near .0) (x .frame)) ∙ lows-lows (l .now) (drop 4 r))
+      (got-lows x′ ts ls rs (is .1) (near .1))
+
+  -- ordinary packets: those that reading the chunks gives
+  pub got-ordinary : (x : Stand) (ts : List Tp) (ls : List Load) (rs : List (List ℕ)) → TpsAre P str F top ts ls → TpsNear ts rs
+      → packets wire (listingAll S x (inputs rs) .0) ≡ packets wire (finds wire room (x .held) (W.heard wire (x .frame) (chunks ls rs)))
+  got-ordinary x [] [] [] is near = refl
+  got-ordinary x [] (l ∷ ls) rs is near = absurd is
+  got-ordinary x [] [] (r ∷ rs) is near = absurd near
+  got-ordinary x (t ∷ ts) [] rs is near = absurd is
+  got-ordinary x (t ∷ ts) (l ∷ ls) [] is near = absurd near
+  got-ordinary x (t ∷ ts) (l ∷ ls) (r ∷ rs) is near =
+      let o : Out wire = step (x .frame) (cellsOf l r) in
+      let x′ : Stand = record { frame = o .0; held = holding wire room (x .held) (o .1) } in
+      let fs = finds wire room (x .held) (o .1) in
+      let lf = lowsFound (l .now) (drop 4 r) in
+      let later = W.heard wire (o .0) (chunks ls rs) in
+      ap (λ (h : Heard). packets wire (listing S x h .0 ++ listingAll S (listing S x h .1) (inputs rs) .0)) (one-tp t l (is .0) r (near .0) (x .frame))
+      ∙ packets-append wire (lf ++ fs) (listingAll S x′ (inputs rs) .0)
+      ∙ ap₂ (λ (a b : List Packet). a ++ b)
+      (packets-append wire lf fs ∙ ap (λ z. z ++ packets wire fs) (packets-lows (l .now) (drop 4 r)))
+      (got-ordinary x′ ts ls rs (is .1) (near .1))
+      ∙ sym (ap (packets wire) (finds-append wire room (x .held) (o .1) later) ∙ packets-append wire fs (finds wire room (x′ .held) later))

@@ -1,0 +1,116 @@
+-- A sender that was opened, over any calls: the TPs carry the accepted low-latency packets and the items' bytes, in order.
+-- Assumes nothing.
+use Prim.Native.Nat.{ℕ, _-_, _≤_}
+use mathlib.Core.Path.{_≡_, refl, sym, ap, ap₂, _∙_, subst⁻¹}
+use mathlib.Core.Bool.{Bool, true, false, cond, _&&_}
+use mathlib.Core.List.{List, [], _∷_, _++_}
+use native.Mathlib.Omega.{arith}
+use lib.Dec.{leb}
+use lib.ListN.{length}
+use borrow.Author.Tests.{leb-true}
+use Rattle.queue.specs.declared.Ring.{Ring}
+use Rattle.queue.specs.Ring.{held}
+use Rattle.sender.specs.declared.Refusal.{Refusal}
+use Rattle.sender.specs.declared.Sender.{Sender}
+use Rattle.sender.specs.declared.Answer.the-variants.{Done, Refused}
+use Rattle.sender.specs.Opening.{allowed, small, empty, fresh, opened}
+use Rattle.receiver.specs.Low.{wire}
+use Rattle.downlink.specs.Run.{Call, ordinary, low, draw, World, next, deed, deeds, left, undrawn}
+use Rattle.downlink.specs.Hearing.{Packet}
+use Rattle.downlink.proofs.Window.{bytes, bytes-append}
+use Rattle.downlink.proofs.Marks.{Cells, Plain, Good}
+use Rattle.downlink.proofs.Loads.{Flows, none-done, then}
+use Rattle.downlink.proofs.Holds.{world, Facts, Holds, hold, Steps, low-step, ordinary-step}
+use Rattle.downlink.proofs.Draws.{draw-step}
+
+module _ (P str F ls os : ℕ) (top : P ≤ 2047) (piece₁ : 1 ≤ F) (piece₂ : F ≤ 65535) where
+  abbrev pub Has : World → List Packet → Cells → Type 0
+  Has = Holds P str F ls os top piece₁ piece₂
+
+  one-in : (lows : List Packet) (pend : Cells) (l o : Ring) (ow re : ℕ) (lb ob : List ℕ) (oc qc : Cells)
+      → Facts P str F ls os top piece₁ piece₂ lows pend l o ow re lb ob oc qc → (c : Call)
+      → Steps P str F ls os top piece₁ piece₂ (next (world P str F ls os top piece₁ piece₂ l o ow re lb ob) c)
+      (deed (world P str F ls os top piece₁ piece₂ l o ow re lb ob) c) lows pend
+  one-in lows pend l o ow re lb ob oc qc f (ordinary c d) = ordinary-step P str F ls os top piece₁ piece₂ lows pend l o ow re lb ob oc qc f c d
+  one-in lows pend l o ow re lb ob oc qc f (low c d) = low-step P str F ls os top piece₁ piece₂ lows pend l o ow re lb ob oc qc f c d
+  one-in lows pend l o ow re lb ob oc qc f (draw b) = draw-step P str F ls os top piece₁ piece₂ lows pend l o ow re lb ob oc qc f b
+
+  one : (w : World) (lows : List Packet) (pend : Cells) (c : Call) → Has w lows pend
+      → Steps P str F ls os top piece₁ piece₂ (next w c) (deed w c) lows pend
+  one w lows pend c h =
+      subst⁻¹ (λ (v : World). Steps P str F ls os top piece₁ piece₂ (next v c) (deed v c) lows pend) (h .is)
+      (one-in lows pend (h .l) (h .o) (h .ow) (h .re) (h .lb) (h .ob) (h .oc) (h .qc) (h .facts) c)
+
+  pub record Ran (w : World) (cs : List Call) (lows : List Packet) (pend : Cells) : Type 0 where
+    pub lows′ : List Packet
+    pub pend′ : Cells
+    pub holds : Has (left w cs) lows′ pend′
+    pub flows : Flows P str F top (deeds w cs) lows pend lows′ pend′
+
+  pub run : (w : World) (cs : List Call) (lows : List Packet) (pend : Cells) → Has w lows pend → Ran w cs lows pend
+  run w [] lows pend h = record { lows′ = lows; pend′ = pend; holds = h; flows = none-done P str F top lows pend }
+  run w (c ∷ cs) lows pend h =
+      let s = one w lows pend c h in
+      let x = run (next w c) cs (s .lows′) (s .pend′) (s .holds) in
+      record {
+        lows′ = x .lows′;
+        pend′ = x .pend′;
+        holds = x .holds;
+        flows = then P str F top (deed w c) (deeds (next w c) cs) lows (s .lows′) (x .lows′) pend (s .pend′) (x .pend′) (s .flows) (x .flows);
+      }
+
+  pub left-bytes : (w : World) (lows : List Packet) (pend : Cells) → Has w lows pend → bytes wire pend ≡ undrawn w
+  left-bytes w lows pend h =
+      let f = h .facts in
+      ap (bytes wire) (f .pend-is) ∙ bytes-append wire (h .oc) (h .qc) ∙ ap₂ (λ (a b : List ℕ). a ++ b) (f .zeros) (f .bytes-are)
+      ∙ ap undrawn (sym (h .is))
+
+-- ---- the opening
+
+both : (a b : Bool) → a && b ≡ true → (a ≡ true) × (b ≡ true)
+both true true e = (refl, refl)
+both true false e = (refl, e)
+both false b e = (e, cc)
+
+nothing-held : (b : List ℕ) → held b empty ≡ []
+unfolding held
+nothing-held b = refl
+
+module _ (size str F : ℕ) (lb ob : List ℕ) (s : Sender) (e : opened size str F (length lb) (length ob) ≡ Done s) where
+  is-fresh : (t : Bool) (k : Refusal) → cond t (Done (fresh size str F (length lb) (length ob))) (Refused k) ≡ Done s → (t ≡ true) × (s ≡ fresh size str F (length lb) (length ob))
+  is-fresh true k e = (refl, cc)
+  is-fresh false k e = (cc, cc)
+
+  opening : (allowed size str F && small (length lb) (length ob) ≡ true) × (s ≡ fresh size str F (length lb) (length ob))
+  unfolding opened
+  opening = is-fresh (allowed size str F && small (length lb) (length ob)) _ e
+
+  pub limits : (16 ≤ size) × (size ≤ 2051) × (str ≤ 15) × (1 ≤ F) × (F ≤ 65535)
+  unfolding allowed
+  limits =
+      let a = both (allowed size str F) (small (length lb) (length ob)) (opening .0) .0 in
+      let p₁ = both (leb 16 size) (leb size 2051 && (leb str 15 && (leb 1 F && leb F 65535))) a in
+      let p₂ = both (leb size 2051) (leb str 15 && (leb 1 F && leb F 65535)) (p₁ .1) in
+      let p₃ = both (leb str 15) (leb 1 F && leb F 65535) (p₂ .1) in
+      let p₄ = both (leb 1 F) (leb F 65535) (p₃ .1) in
+      (leb-true 16 size (p₁ .0), leb-true size 2051 (p₂ .0), leb-true str 15 (p₃ .0), leb-true 1 F (p₄ .0), leb-true F 65535 (p₄ .1))
+
+  pub start : (top : size - 4 ≤ 2047) (p₁ : 1 ≤ F) (p₂ : F ≤ 65535)
+      → Holds (size - 4) str F (length lb) (length ob) top p₁ p₂ (record { sender = s; low = lb; ordinary = ob }) [] []
+  unfolding Plain Good
+  start top p₁ p₂ =
+      subst⁻¹ (λ (x : Sender). Holds (size - 4) str F (length lb) (length ob) top p₁ p₂ (record { sender = x; low = lb; ordinary = ob }) [] []) (opening .1)
+      (hold (size - 4) str F (length lb) (length ob) top p₁ p₂ [] [] empty empty 0 0 lb ob [] []
+      (record {
+        kl = record { head = omega arith; len = omega arith };
+        ko = record { head = omega arith; len = omega arith };
+        el = refl;
+        eo = refl;
+        lows-are = nothing-held lb;
+        lows-ok = tt;
+        pend-is = refl;
+        plain = tt;
+        zeros = refl;
+        bytes-are = sym (nothing-held ob);
+        good = tt;
+      }))

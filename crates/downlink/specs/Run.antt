@@ -1,0 +1,87 @@
+-- A sender run over any calls, by the definitions that its contracts cite (document 01, "Sender"), in queue buffers that nobody else
+-- writes. A draw may be lent a buffer of any length: another than the TP length is refused. Assumes nothing.
+use mathlib.Core.List.{List, [], _∷_, _++_}
+use Prim.Native.Nat.{ℕ, suc, _-_}
+use lib.ListN.{length, replicate}
+use Rattle.queue.specs.Ring.{held}
+use Rattle.sender.specs.declared.Sender.{Sender}
+use Rattle.sender.specs.declared.Answer.{Answer}
+use Rattle.sender.specs.declared.Answer.the-variants.{Done, Refused}
+use Rattle.sender.specs.Offering.{ordinaryOffered, lowOffered}
+use Rattle.sender.specs.Drawing as D
+use Rattle.sender.specs.Drawing.{leave, part, lacking}
+
+-- an offer of this content and data, or a draw into this buffer
+pub data Call : Type 0 where
+  ordinary low : ℕ → List ℕ → Call
+  draw : List ℕ → Call
+
+-- a sender and its two queue buffers
+pub record World : Type 0 where
+  pub sender : Sender
+  pub low : List ℕ
+  pub ordinary : List ℕ
+
+-- a TP drawn: its bytes, the LLEPs in it, and the bytes of the fill EP that begins in it, if one does
+pub record Tp : Type 0 where
+  pub bytes : List ℕ
+  pub lleps : List (List ℕ)
+  pub fill : List ℕ
+
+-- what a call did: an offer that was accepted, with its content and data; a draw that gave a TP
+pub data Deed : Type 0 where
+  refused : Deed
+  took tookLow : ℕ → List ℕ → Deed
+  drew : Tp → Deed
+
+-- the LLEPs that leave at the next draw, and the fill that follows where the queue is empty
+abbrev pub leaving : World → List (List ℕ)
+leaving w = let P = w .sender .setting .payload in leave (suc P) P (held (w .low) (w .sender .low)) P
+
+abbrev pub filling : World → List ℕ
+filling w =
+    D.fill (lacking (w .sender .setting .payload - length (part (leaving w))) (w .sender .owed) (held (w .ordinary) (w .sender .ordinary)))
+
+-- a refusal leaves the sender unchanged
+abbrev pub kept : Sender → Answer → Sender
+kept s (Done t) = t
+kept s (Refused k) = s
+
+abbrev pub next : World → Call → World
+next w (ordinary c d) =
+    let x = ordinaryOffered (w .sender) (w .low) (w .ordinary) c d in
+    record { sender = kept (w .sender) (x .answer); low = w .low; ordinary = x .buffer }
+next w (low c d) =
+    let x = lowOffered (w .sender) (w .low) (w .ordinary) c d in
+    record { sender = kept (w .sender) (x .answer); low = x .buffer; ordinary = w .ordinary }
+next w (draw b) = record { sender = kept (w .sender) (D.drew (w .sender) (w .low) (w .ordinary) b .answer); low = w .low; ordinary = w .ordinary }
+
+abbrev pub unless : Answer → Deed → Deed
+unless (Done s) d = d
+unless (Refused k) d = refused
+
+abbrev pub deed : World → Call → Deed
+deed w (ordinary c d) = unless (ordinaryOffered (w .sender) (w .low) (w .ordinary) c d .answer) (took c d)
+deed w (low c d) = unless (lowOffered (w .sender) (w .low) (w .ordinary) c d .answer) (tookLow c d)
+deed w (draw b) =
+    let x = D.drew (w .sender) (w .low) (w .ordinary) b in
+    unless (x .answer) (drew (record { bytes = x .buffer; lleps = leaving w; fill = filling w }))
+
+abbrev pub deeds : World → List Call → List Deed
+deeds w [] = []
+deeds w (c ∷ cs) = deed w c ∷ deeds (next w c) cs
+
+abbrev pub left : World → List Call → World
+left w [] = w
+left w (c ∷ cs) = left (next w c) cs
+
+-- the ordinary bytes still to be drawn: owed fill bytes, then the queue
+abbrev pub undrawn : World → List ℕ
+undrawn w = replicate (w .sender .owed) 0 ++ held (w .ordinary) (w .sender .ordinary)
+
+abbrev pub tps : List Deed → List Tp
+tps [] = []
+tps (refused ∷ ds) = tps ds
+tps (took c d ∷ ds) = tps ds
+tps (tookLow c d ∷ ds) = tps ds
+tps (drew t ∷ ds) = t ∷ tps ds

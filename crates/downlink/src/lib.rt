@@ -1,0 +1,1 @@
+// Demand 3: definitions and proofs only.

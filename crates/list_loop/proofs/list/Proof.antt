@@ -1,0 +1,69 @@
+-- `c7list::list` is safe: what `open` gives can be called, and the buffer has its length.
+-- Assumes nothing.
+use mathlib.Core.Path.{subst}
+use native.Mathlib.Omega.{arith}
+use Rattle.receiver.specs.Call.{AbleIf}
+use borrow.Author.Needs.{needs}
+use Rattle.list_loop.proofs.list.Statement.{statement}
+use Rattle.list_loop.proofs.list.Tie as tie
+
+slice-aggregate-open : tie.Need-slice-aggregate-open
+slice-aggregate-open c = search needs
+
+open-requires : tie.Need-open-requires
+open-requires c κs = search needs
+
+enum-known-receiver : tie.Need-enum-known-receiver
+enum-known-receiver c = search needs
+
+enum-told : tie.Need-enum-told
+enum-told c = search needs
+
+slice-aggregate-stop : tie.Need-slice-aggregate-stop
+slice-aggregate-stop c = search needs
+
+stop-requires : tie.Need-stop-requires
+stop-requires c κs = search needs
+
+returns : tie.Need-returns
+returns c = search needs
+
+slice-aggregate-header : tie.Need-slice-aggregate-header
+slice-aggregate-header c = search needs
+
+header-requires : tie.Need-header-requires
+header-requires c κs = search needs
+
+slice-aggregate-turns : tie.Need-slice-aggregate-turns
+slice-aggregate-turns c = search needs
+
+slice-aggregate-turns-2 : tie.Need-slice-aggregate-turns-2
+slice-aggregate-turns-2 c = search needs
+
+slice-aggregate-turns-3 : tie.Need-slice-aggregate-turns-3
+slice-aggregate-turns-3 c = search needs
+
+turns-requires : tie.Need-turns-requires
+turns-requires c κs = (subst AbleIf (c .before .before .before .before .before .before .before .receiver .given .1) (c .before .before .before .before .before .before .before .before .before .«open» .ensures .able), omega arith)
+
+returns-2 : tie.Need-returns-2
+returns-2 c = search needs
+
+pub list-spec : {M : Type 1} → statement M
+list-spec =
+    tie.close
+    (tie.spec
+    slice-aggregate-open
+    open-requires
+    enum-known-receiver
+    enum-told
+    slice-aggregate-stop
+    stop-requires
+    returns
+    slice-aggregate-header
+    header-requires
+    slice-aggregate-turns
+    slice-aggregate-turns-2
+    slice-aggregate-turns-3
+    turns-requires
+    returns-2)
