@@ -1,0 +1,109 @@
+// The calls on the receiver. Each takes the TP and the room as they are lent.
+ghost use Rattle.receiver.specs.State.{Able};
+ghost use Rattle.calls.specs.Running.{Fine};
+use crate::State;
+use crate::text::freed;
+use crate::text::put_digest;
+use crate::text::put_find;
+use receiver::Find;
+use receiver::Opened;
+use receiver::Receiver;
+
+// No TP gives so much: the loop ends for this.
+const LAST: u64 = 0x8000000000000000;
+
+// What a call leaves, and whether the TP has more to give.
+pub struct Asked {
+    pub state: State,
+    pub goes_on: bool,
+}
+
+fn with_receiver(s: State, receiver: Receiver, at: usize) -> State
+    requires { ⌜ Fine s ⌝ }
+    requires { ⌜ Able receiver ⌝ }
+    ensures { λ r. ⌜ Fine r ⌝ }
+{
+    let sender = s.sender;
+    State {
+        sender,
+        receiver,
+        limit: s.limit,
+        at,
+    }
+}
+
+fn put_opening(out: &mut [u8], at: usize, number: u64, room: &[u8], limit: usize) -> usize {
+    let mut next = block::put(out, freed(out, at), b"receiver ");
+    next = block::put_number(out, next, number);
+    next = put_digest(out, next, room, limit);
+    block::put(out, next, b"\n")
+}
+
+pub fn open(s: State, tp: usize, stream: u8, room: &[u8], out: &mut [u8]) -> State
+    requires { ⌜ Fine s ⌝ }
+    ensures { λ r. ⌜ Fine r ⌝ }
+{
+    let Opened::Ready(r) = receiver::open(tp, stream, room) else {
+        let receiver = s.receiver;
+        let at = put_opening(out, s.at, 1, room, s.limit);
+        return with_receiver(s, receiver, at);
+    };
+    let at = put_opening(out, s.at, 0, room, s.limit);
+    with_receiver(s, r, at)
+}
+
+fn put_next<'a>(
+    out: &mut [u8],
+    at: usize,
+    find: Find,
+    tp: &'a [u8],
+    room: &'a [u8],
+    limit: usize,
+) -> usize {
+    let mut next = block::put(out, freed(out, at), b"next ");
+    next = put_find(out, next, find, receiver::found(tp, room, find));
+    next = put_digest(out, next, tp, tp.len());
+    next = put_digest(out, next, room, limit);
+    block::put(out, next, b"\n")
+}
+
+pub fn next(s: State, tp: &[u8], room: &mut [u8], out: &mut [u8]) -> Asked
+    requires { ⌜ Fine s ⌝ }
+    ensures { λ r. ⌜ Fine (r .state) ⌝ }
+{
+    let before = s.receiver;
+    let step = receiver::next(before, tp, room);
+    let find = step.find;
+    let receiver = step.receiver;
+    let at = put_next(out, s.at, find, tp, room, s.limit);
+    Asked {
+        state: with_receiver(s, receiver, at),
+        goes_on: listing::goes_on(find),
+    }
+}
+
+pub fn all(first: State, tp: &[u8], room: &mut [u8], out: &mut [u8]) -> State
+    requires { ⌜ Fine first ⌝ }
+    ensures { λ r. ⌜ Fine r ⌝ }
+{
+    let mut s = first;
+    let mut left = LAST;
+    while left > 0 {
+        let asked = next(s, tp, room, out);
+        s = asked.state;
+        if !asked.goes_on {
+            return s;
+        }
+        left -= 1;
+    }
+    s
+}
+
+pub fn gap(s: State, out: &mut [u8]) -> State
+    requires { ⌜ Fine s ⌝ }
+    ensures { λ r. ⌜ Fine r ⌝ }
+{
+    let before = s.receiver;
+    let at = block::put(out, freed(out, s.at), b"gap\n");
+    with_receiver(s, receiver::gap(before), at)
+}
