@@ -1,11 +1,12 @@
-/* The commands of the program; each reads standard input and writes standard output. */
+/* The commands: each reads standard input, writes standard output, gives the exit status. */
 #ifndef COMMANDS_H
 #define COMMANDS_H
 
-void command_send(void);
-void command_list(void);
-void command_calls(void);
-void command_vectors(void);
-void command_words(void);
+int command_send(void);
+int command_list(void);
+int command_calls(void);
+int command_vectors(void);
+int command_words(void);
+int command_longest(void);
 
 #endif

@@ -1,92 +1,91 @@
 #include "golay.h"
 
-#define NUMBERS 4096
+#include <stdbool.h>
 
-static const uint16_t generator[12] = { /* A.2, G_P */
-    0xC75, 0x63B, 0xF68, 0x7B4, 0x3DA, 0xD99, 0x6CD, 0x367, 0xDC6, 0xA97, 0x93E, 0x8EB
+uint32_t golay_encode_table[GOLAY_SIZE];
+uint16_t golay_syndrome_table[GOLAY_SIZE];
+uint16_t golay_correct_table[GOLAY_SIZE];
+uint8_t golay_error_table[GOLAY_SIZE];
+int16_t golay_end_table[0x100];
+
+/* Parity half of the generator matrix (A.2), most significant bit first. */
+static const uint16_t generator[12] = {
+    0xC75, 0x63B, 0xF68, 0x7B4, 0x3DA, 0xD99,
+    0x6CD, 0x367, 0xDC6, 0xA97, 0x93E, 0x8EB
 };
-static const uint16_t parity_check[12] = { /* A.3, H_P */
-    0xA4F, 0xF68, 0x7B4, 0x3DA, 0x1ED, 0xAB9, 0xF13, 0xDC6, 0x6E3, 0x93E, 0x49F, 0xC75
+
+/* Parity check matrix (A.3): takes a parity half back to its number. */
+static const uint16_t check[12] = {
+    0xA4F, 0xF68, 0x7B4, 0x3DA, 0x1ED, 0xAB9,
+    0xF13, 0xDC6, 0x6E3, 0x93E, 0x49F, 0xC75
 };
 
-static uint32_t code_words[NUMBERS];
-static uint16_t parity_syndromes[NUMBERS]; /* what the parity half adds to the syndrome */
-static uint16_t corrections[NUMBERS];      /* by syndrome: what to flip in the number half */
-static uint8_t flip_counts[NUMBERS];       /* by syndrome: flips in both halves */
+static unsigned ones_in(uint32_t code, unsigned size)
+{
+    unsigned ones = 0;
 
-static uint16_t sum_of_rows(const uint16_t rows[12], uint32_t choice)
+    for (unsigned i = 0; i < size; i++)
+        ones += code >> i & 1;
+    return ones;
+}
+
+static uint16_t sum_of_rows(const uint16_t rows[12], uint32_t chosen)
 {
     uint16_t sum = 0;
-    for (int i = 0; i < 12; i++)
-        if (choice >> (11 - i) & 1)
+
+    for (unsigned i = 0; i < 12; i++)
+        if (chosen >> (11 - i) & 1)
             sum ^= rows[i];
     return sum;
 }
 
-static unsigned ones(uint32_t bits)
+static void init_encode(void)
 {
-    unsigned count = 0;
-    for (; bits != 0; bits &= bits - 1)
-        count++;
-    return count;
+    for (uint32_t x = 0; x < GOLAY_SIZE; x++)
+        golay_encode_table[x] = x << 12 | sum_of_rows(generator, x);
 }
 
-static uint16_t syndrome(uint32_t word)
+static void init_decode(void)
 {
-    return (uint16_t)((word >> 12 & 0xFFF) ^ parity_syndromes[word & 0xFFF]);
+    for (uint32_t x = 0; x < GOLAY_SIZE; x++) {
+        golay_syndrome_table[x] = sum_of_rows(check, x);
+        golay_error_table[x] = GOLAY_BEYOND;
+        golay_correct_table[x] = 0xFFFF;
+    }
+    golay_error_table[0] = 0;
+    golay_correct_table[0] = 0;
+    /* Equal places give the errors of one and two ones. */
+    for (unsigned i = 0; i < 24; i++)
+        for (unsigned j = 0; j < 24; j++)
+            for (unsigned k = 0; k < 24; k++) {
+                uint32_t error = 1u << i | 1u << j | 1u << k;
+                uint32_t syndrome = golay_syndrome(error);
+
+                golay_correct_table[syndrome] = (uint16_t)(error >> 12);
+                golay_error_table[syndrome] = (uint8_t)ones_in(error, 24);
+            }
 }
 
-static void enter_error(uint32_t error)
+static void init_end(void)
 {
-    uint16_t s = syndrome(error);
-    corrections[s] = (uint16_t)(error >> 12);
-    flip_counts[s] = (uint8_t)ones(error);
+    for (uint32_t byte = 0; byte < 0x100; byte++) {
+        unsigned ones = ones_in(byte, 8);
+
+        golay_end_table[byte] = ones <= 4 ? END_LAST : END_MORE;
+        /* Stricter than A.4: four ones lie as near to FF as to 00. */
+        if (ones == 4)
+            golay_end_table[byte] = END_BEYOND;
+    }
 }
 
 void golay_init(void)
 {
-    for (uint32_t x = 0; x < NUMBERS; x++) {
-        code_words[x] = x << 12 | sum_of_rows(generator, x);
-        parity_syndromes[x] = sum_of_rows(parity_check, x);
-        corrections[x] = 0xFFFF;
-        flip_counts[x] = GOLAY_BEYOND_REPAIR;
-    }
-    enter_error(0);
-    /* equal bits among i, j, k give the errors of one and two flips */
-    for (int i = 0; i < 24; i++)
-        for (int j = 0; j < 24; j++)
-            for (int k = 0; k < 24; k++)
-                enter_error(UINT32_C(1) << i | UINT32_C(1) << j | UINT32_C(1) << k);
-}
+    static bool built;
 
-uint32_t golay_encode(uint32_t number)
-{
-    return code_words[number % NUMBERS];
-}
-
-Decoded golay_decode(uint32_t word)
-{
-    uint16_t s = syndrome(word);
-    return (Decoded){ .number = (word >> 12 ^ corrections[s]) & 0xFFF, .flips = flip_counts[s] };
-}
-
-EndByte end_byte_decode(uint8_t byte)
-{
-    unsigned count = ones(byte);
-    if (count == 4)
-        return END_BROKEN; /* stricter than A.4, which reads 00 */
-    return count < 4 ? END_LAST : END_MORE;
-}
-
-void golay_put(uint8_t bytes[3], uint32_t number)
-{
-    uint32_t word = golay_encode(number);
-    bytes[0] = (uint8_t)(word >> 16);
-    bytes[1] = (uint8_t)(word >> 8);
-    bytes[2] = (uint8_t)word;
-}
-
-uint32_t golay_get(const uint8_t bytes[3])
-{
-    return (uint32_t)bytes[0] << 16 | (uint32_t)bytes[1] << 8 | bytes[2];
+    if (built)
+        return;
+    init_encode();
+    init_decode();
+    init_end();
+    built = true;
 }

@@ -1,27 +1,66 @@
-/* The extended Golay code (24, 12, 8) and the end byte code (8, 1, 3). */
+/* The extended Golay code (24,12,8) and the end byte code (8,1,3). */
 #ifndef GOLAY_H
 #define GOLAY_H
 
-#include <stdbool.h>
 #include <stdint.h>
 
-#define GOLAY_BEYOND_REPAIR 4
+enum {
+    GOLAY_SIZE = 0x1000,
+    GOLAY_BYTES = 3,
+    GOLAY_BEYOND = 4, /* count of a word that no three flips explain */
+    END_LAST = 0x00,
+    END_MORE = 0xFF,
+    END_BEYOND = -1
+};
 
-typedef struct {
-    uint16_t number; /* meaningful if flips is at most 3 */
-    uint8_t flips;   /* 0 to 3, or GOLAY_BEYOND_REPAIR */
-} Decoded;
+extern uint32_t golay_encode_table[GOLAY_SIZE];
+extern uint16_t golay_syndrome_table[GOLAY_SIZE];
+extern uint16_t golay_correct_table[GOLAY_SIZE];
+extern uint8_t golay_error_table[GOLAY_SIZE];
+extern int16_t golay_end_table[0x100];
 
-typedef enum { END_LAST, END_MORE, END_BROKEN } EndByte;
+/* Builds the tables; only the first call works, every opening makes it. */
+void golay_init(void);
 
-void golay_init(void); /* builds the tables; call it once, before anything else */
+/* The 24-bit word of a 12-bit number. */
+static inline uint32_t golay_encode(uint32_t number)
+{
+    return golay_encode_table[number & 0xFFF];
+}
 
-uint32_t golay_encode(uint32_t number); /* the number modulo 4,096 */
-Decoded golay_decode(uint32_t word);    /* the word modulo 2^24 */
-EndByte end_byte_decode(uint8_t byte);
+static inline uint32_t golay_syndrome(uint32_t word)
+{
+    return golay_syndrome_table[word & 0xFFF] ^ (word >> 12 & 0xFFF);
+}
 
-/* Words travel most significant byte first. */
-void golay_put(uint8_t bytes[3], uint32_t number);
-uint32_t golay_get(const uint8_t bytes[3]);
+/* Count of flipped bits of all 24, GOLAY_BEYOND if there is no number. */
+static inline unsigned golay_decode(uint32_t word, uint32_t *number)
+{
+    uint32_t syndrome = golay_syndrome(word);
+
+    /* The mask cuts the mark of uncorrectable syndromes to twelve bits. */
+    *number = ((word >> 12) ^ golay_correct_table[syndrome]) & 0xFFF;
+    return golay_error_table[syndrome];
+}
+
+/* END_LAST, END_MORE or END_BEYOND. */
+static inline int golay_end(uint8_t byte)
+{
+    return golay_end_table[byte];
+}
+
+static inline void golay_put(uint8_t at[GOLAY_BYTES], uint32_t number)
+{
+    uint32_t word = golay_encode(number);
+
+    at[0] = (uint8_t)(word >> 16);
+    at[1] = (uint8_t)(word >> 8);
+    at[2] = (uint8_t)word;
+}
+
+static inline uint32_t golay_word(const uint8_t at[GOLAY_BYTES])
+{
+    return (uint32_t)at[0] << 16 | (uint32_t)at[1] << 8 | at[2];
+}
 
 #endif

@@ -1,97 +1,96 @@
 #include "house.h"
 
-#include "packets.h"
+#include <string.h>
 
-static uint32_t big_endian(const uint8_t *bytes, int count)
+static const uint8_t mark[2] = {0xC7, 0x07};
+
+house_input house_open(FILE *stream, unsigned kinds)
 {
-    uint32_t number = 0;
-    for (int i = 0; i < count; i++)
-        number = number << 8 | bytes[i];
-    return number;
+    return (house_input){.stream = stream, .kinds = kinds};
 }
 
-/* Says why the program stops; always false, so that callers can return it. */
-static bool stop(const Reader *reader, const char *what)
+/* The first thing wrong with a record's header, NULL if nothing is. */
+static const char *header_fault(const uint8_t head[HOUSE_HEADER], unsigned kinds, size_t length)
 {
-    fprintf(stderr, "%s: record at byte %llu: %s\n", reader->program,
-            (unsigned long long)reader->next_begin, what);
+    uint8_t kind = head[2], content = head[3];
+
+    if (memcmp(head, mark, sizeof mark) != 0)
+        return "the mark C7 07 is missing";
+    if (kind > HOUSE_GAP)
+        return "no such kind";
+    if ((kinds >> kind & 1) == 0)
+        return "this kind does not belong here";
+    if (content != 0 && kind != HOUSE_ORDINARY && kind != HOUSE_LOW)
+        return "content must be 0 in this kind";
+    switch (kind) {
+    case HOUSE_SETUP:
+        return length == HOUSE_SETUP_DATA ? NULL : "a setup holds 5 bytes";
+    case HOUSE_DRAW:
+    case HOUSE_GAP:
+        return length == 0 ? NULL : "this kind holds no data";
+    default:
+        return length <= HOUSE_DATA_MAX ? NULL : "more than 32768 data bytes";
+    }
+}
+
+static bool stop(house_input *input, const char *wrong)
+{
+    input->wrong = wrong;
     return false;
 }
 
-static bool length_follows(const Record *record)
+static bool read_record(house_input *input, house_record *record, unsigned kinds)
 {
-    switch (record->kind) {
-    case KIND_SETUP:
-        return record->length == SETUP_BYTES;
-    case KIND_DRAW:
-    case KIND_GAP:
-        return record->length == 0;
-    default:
-        return record->length <= RECORD_DATA_MAX;
-    }
-}
+    uint8_t head[HOUSE_HEADER];
+    size_t got = fread(head, 1, sizeof head, input->stream);
 
-bool read_record(Reader *reader, uint32_t first_kind, uint32_t last_kind)
-{
-    uint8_t header[RECORD_HEADER];
-    size_t got = fread(header, 1, RECORD_HEADER, reader->file);
+    input->at = input->next;
     if (got == 0)
         return false;
-    if (got < RECORD_HEADER)
-        return stop(reader, "cut short");
-    Record *record = &reader->record;
-    record->kind = header[2];
-    record->content = header[3];
-    record->length = big_endian(header + 4, 4);
-    if (header[0] != 0xC7 || header[1] != 0x07)
-        return stop(reader, "no mark");
-    if (record->kind < first_kind || record->kind > last_kind)
-        return stop(reader, "a kind that has no place here");
-    if (record->content != 0 && record->kind != KIND_ORDINARY && record->kind != KIND_LOW)
-        return stop(reader, "content not 0");
-    if (!length_follows(record))
-        return stop(reader, "wrong length");
-    if (fread(record->data, 1, record->length, reader->file) != record->length)
-        return stop(reader, "cut short");
-    reader->next_begin += RECORD_HEADER + record->length;
+    if (got < sizeof head)
+        return stop(input, "the input ends inside the header");
+
+    size_t length =
+        (size_t)head[4] << 24 | (size_t)head[5] << 16 | (size_t)head[6] << 8 | head[7];
+    const char *wrong = header_fault(head, kinds, length);
+
+    if (wrong != NULL)
+        return stop(input, wrong);
+    if (length > 0 && fread(record->data, 1, length, input->stream) < length)
+        return stop(input, "the input ends inside the data");
+    record->kind = head[2];
+    record->content = head[3];
+    record->length = length;
+    input->next += HOUSE_HEADER + length;
     return true;
 }
 
-bool read_setup(Reader *reader, Setup *setup)
+bool house_read_setup(house_input *input, house_record *record, house_setup *setup)
 {
-    if (!read_record(reader, KIND_SETUP, KIND_SETUP))
+    const uint8_t *data = record->data;
+
+    if (!read_record(input, record, 1u << HOUSE_SETUP))
         return false;
-    const uint8_t *data = reader->record.data;
-    setup->tp_length = big_endian(data, 2);
+    setup->tp_length = (size_t)data[0] << 8 | data[1];
     setup->stream = data[2];
-    setup->piece = big_endian(data + 3, 2);
-    if (setup->tp_length < TP_LENGTH_MIN || setup->tp_length > TP_LENGTH_MAX ||
-        setup->stream > STREAM_MAX || setup->piece < 1) {
-        reader->next_begin = 0; /* the setup is the record at fault */
-        return stop(reader, "a setup outside the limits");
-    }
+    setup->fragment = (size_t)data[3] << 8 | data[4];
+    if (!c7_tp_settings_ok(setup->tp_length, setup->stream) || setup->fragment < C7_FRAGMENT_MIN)
+        return stop(input, "a setting is outside its limits");
     return true;
 }
 
-static void write_header(FILE *file, uint32_t kind, uint32_t length)
+bool house_read(house_input *input, house_record *record)
 {
-    uint8_t header[RECORD_HEADER] = { 0xC7, 0x07, (uint8_t)kind, 0,
-                                      (uint8_t)(length >> 24), (uint8_t)(length >> 16),
-                                      (uint8_t)(length >> 8), (uint8_t)length };
-    fwrite(header, 1, RECORD_HEADER, file);
+    return read_record(input, record, input->kinds);
 }
 
-void write_setup(FILE *file, const Setup *setup)
+bool house_write(FILE *stream, uint8_t kind, const uint8_t *data, size_t length)
 {
-    uint8_t data[SETUP_BYTES] = { (uint8_t)(setup->tp_length >> 8), (uint8_t)setup->tp_length,
-                                  (uint8_t)setup->stream, (uint8_t)(setup->piece >> 8),
-                                  (uint8_t)setup->piece };
-    write_header(file, KIND_SETUP, SETUP_BYTES);
-    fwrite(data, 1, SETUP_BYTES, file);
-}
+    uint8_t head[HOUSE_HEADER] = {
+        mark[0], mark[1], kind, 0,
+        (uint8_t)(length >> 24), (uint8_t)(length >> 16), (uint8_t)(length >> 8), (uint8_t)length,
+    };
 
-void write_tp(FILE *file, const uint8_t *tp, uint32_t length)
-{
-    write_header(file, KIND_TP, length);
-    fwrite(tp, 1, length, file);
+    return fwrite(head, 1, sizeof head, stream) == sizeof head &&
+           fwrite(data, 1, length, stream) == length;
 }

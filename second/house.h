@@ -2,49 +2,53 @@
 #ifndef HOUSE_H
 #define HOUSE_H
 
-#include <stdbool.h>
 #include <stdint.h>
 #include <stdio.h>
 
+#include "packets.h"
+
 enum {
-    KIND_SETUP = 0,
-    KIND_ORDINARY = 1,
-    KIND_LOW = 2,
-    KIND_DRAW = 3,
-    KIND_TP = 4,
-    KIND_GAP = 5,
+    HOUSE_SETUP = 0,
+    HOUSE_ORDINARY = 1,
+    HOUSE_LOW = 2,
+    HOUSE_DRAW = 3,
+    HOUSE_TP = 4,
+    HOUSE_GAP = 5
 };
 
-enum { RECORD_HEADER = 8, SETUP_BYTES = 5, RECORD_DATA_MAX = 32768 };
+enum { HOUSE_HEADER = 8, HOUSE_SETUP_DATA = 5, HOUSE_DATA_MAX = 32768 };
 
 typedef struct {
-    uint32_t kind;
-    uint32_t content;
-    uint32_t length;
-    uint8_t data[RECORD_DATA_MAX];
-} Record;
+    uint8_t kind;
+    uint8_t content;
+    size_t length;
+    uint8_t data[HOUSE_DATA_MAX];
+} house_record;
 
 typedef struct {
-    uint32_t tp_length;
-    uint32_t stream;
-    uint32_t piece;
-} Setup;
+    size_t tp_length;
+    unsigned stream;
+    size_t fragment;
+} house_setup;
 
-/* Records come from `file` until its end, or until a record that stops the program. */
+/* A stream of records; the kinds allowed after the setup are bits of a mask. */
 typedef struct {
-    FILE *file;
-    const char *program; /* named in the line about a bad record */
-    uint64_t next_begin; /* byte at which the next record begins */
-    Record record;       /* the last one read */
-} Reader;
+    FILE *stream;
+    unsigned kinds;
+    unsigned long long at;   /* of the record read last */
+    unsigned long long next; /* of the record to come */
+    const char *wrong;       /* what stopped the reading, if anything did */
+} house_input;
 
-/* The first record; false if there is none, or it is not a setup within the sender's limits. */
-bool read_setup(Reader *reader, Setup *setup);
+house_input house_open(FILE *stream, unsigned kinds);
 
-/* A later record of one of these kinds; false at the end of the file or at a bad record. */
-bool read_record(Reader *reader, uint32_t first_kind, uint32_t last_kind);
+/* The setup that must come first; false at the end or at what stops the reading. */
+bool house_read_setup(house_input *input, house_record *record, house_setup *setup);
 
-void write_setup(FILE *file, const Setup *setup);
-void write_tp(FILE *file, const uint8_t *tp, uint32_t length);
+/* A record after the setup; false at the end or at what stops the reading. */
+bool house_read(house_input *input, house_record *record);
+
+/* Writes a record with content 0; false if the stream takes no more. */
+bool house_write(FILE *stream, uint8_t kind, const uint8_t *data, size_t length);
 
 #endif

@@ -1,4 +1,4 @@
-"""Inputs from a seed: recordings for the two programs, and lists of calls."""
+"""Inputs from a seed: recordings for the two programs, lists of calls, and sections of words."""
 import downlink
 import packer
 from packer import FIRST, LAST, MIDDLE, NO_START, WHOLE
@@ -466,6 +466,7 @@ def opening_calls(rng):
     for size in (0, 131071, 131072, 131073):
         yield call(RECEIVER, 16, 0, size)
         yield call(ALL, 16, 0, size)
+    yield call(ALL, 16, 0, 131072)  # the last opening was refused, so the one before still counts
     yield from long_offers(rng)
     yield call(LIMIT, 0xFFFFFFFF)
 
@@ -498,3 +499,39 @@ def call_list(rng):
         entries += overwritten_low_calls(rng)
         entries += overwritten_ordinary_calls(rng)
     return entries
+
+
+# ---- sections of words (words.h) ----
+
+NOTHING, ENCODE, DECODE, END = range(4)
+
+
+def section(what, words):
+    return bytes([what]) + len(words).to_bytes(2, "big") + b"".join(word.to_bytes(3, "big") for word in words)
+
+
+def flipped_word(rng, word, flips):
+    for bit in rng.sample(range(24), flips):
+        word ^= 1 << bit
+    return word
+
+
+def word_sections(rng, count):
+    """Any words for each sort, and code words with up to five flips."""
+    def coded():
+        return int.from_bytes(packer.golay(rng.randrange(4096)), "big")
+    sections = [section(what, [rng.randrange(1 << 24) for _ in range(count)]) for what in range(4)]
+    return sections + [section(DECODE, [flipped_word(rng, coded(), flips) for _ in range(count)]) for flips in range(6)]
+
+
+# ---- the longest packets (longest.c) ----
+
+def longest_parts(rng, sent, lengths):
+    """So many packets to send; then the TPs of packets of these lengths, with a low-latency one."""
+    sender = packer.Sender(2051, 5, 65535, 1 << 20, 1 << 20)
+    sender.offer("low", 1, rng.randbytes(100))
+    for length in lengths:
+        sender.offer("ordinary", 1, rng.randbytes(length))
+        for _ in range(length // 2047 + 1):
+            sender.draw()
+    return [b"\1" + sent.to_bytes(2, "big"), b"\2", *sender.tps]

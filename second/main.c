@@ -1,109 +1,142 @@
-/* The second program: `c7 send`, `c7 list`, and for tests `c7 calls`, `c7 vectors`, `c7 words`. */
-#include <stdbool.h>
-#include <stdio.h>
-#include <string.h>
-
+/* The sending and the listing program, and the choice of a command. */
 #include "commands.h"
-#include "golay.h"
 #include "house.h"
 #include "receiver.h"
 #include "sender.h"
 
-#define BUFFER 32768
+#include <stdlib.h>
+#include <string.h>
 
-void command_send(void)
+enum { PROGRAM_BUFFER = 32768, STREAM_BUFFER = 1 << 20 };
+
+/* Static, so cleared at start. */
+static uint8_t ordinary_queue[PROGRAM_BUFFER];
+static uint8_t low_queue[PROGRAM_BUFFER];
+static uint8_t room[PROGRAM_BUFFER];
+static house_record record;
+
+static int finish(const char *program, const house_input *input)
 {
-    static uint8_t ordinary_bytes[BUFFER], low_bytes[BUFFER], tp[TP_LENGTH_MAX];
-    static Reader reader = { .program = "c7send" };
-    Span ordinary = { ordinary_bytes, BUFFER }, low = { low_bytes, BUFFER };
-    const Record *record = &reader.record;
-    Setup setup;
-    Sender sender;
+    if (fflush(stdout) != 0 || ferror(stdout)) {
+        fprintf(stderr, "%s: cannot write\n", program);
+        return EXIT_FAILURE;
+    }
+    if (ferror(input->stream)) {
+        fprintf(stderr, "%s: cannot read\n", program);
+        return EXIT_FAILURE;
+    }
+    if (input->wrong != NULL)
+        fprintf(stderr, "%s: record at byte %llu: %s\n", program, input->at, input->wrong);
+    return EXIT_SUCCESS;
+}
 
-    reader.file = stdin;
-    if (!read_setup(&reader, &setup))
-        return;
-    sender_open(&sender, setup.tp_length, setup.stream, setup.piece, ordinary, low);
-    write_setup(stdout, &setup);
-    while (read_record(&reader, KIND_ORDINARY, KIND_DRAW)) {
-        if (record->kind == KIND_ORDINARY) { /* a refused offer is skipped */
-            sender_offer_ordinary(&sender, record->content, record->data, record->length,
-                                  ordinary, low);
-        } else if (record->kind == KIND_LOW) {
-            sender_offer_low(&sender, record->content, record->data, record->length, ordinary,
-                             low);
-        } else {
-            sender_draw(&sender, (Span){ tp, setup.tp_length }, ordinary, low);
-            write_tp(stdout, tp, setup.tp_length);
-        }
+static bool send_one(c7_sender *sender)
+{
+    static uint8_t tp[C7_TP_MAX];
+    const c7_buffer ordinary = {ordinary_queue, sizeof ordinary_queue};
+    const c7_buffer low = {low_queue, sizeof low_queue};
+
+    /* A refused offer is skipped, so its number is of no use here. */
+    switch (record.kind) {
+    case HOUSE_ORDINARY:
+        c7_offer_ordinary(sender, ordinary, low, record.content, record.data, record.length);
+        return true;
+    case HOUSE_LOW:
+        c7_offer_low(sender, ordinary, low, record.content, record.data, record.length);
+        return true;
+    default:
+        if (c7_draw(sender, ordinary, low, tp, sender->tp_length) != C7_DONE)
+            return true;
+        return house_write(stdout, HOUSE_TP, tp, sender->tp_length);
     }
 }
 
-static void print_find(unsigned long tp_number, Find find)
+int command_send(void)
 {
-    static const char *const sort[] = { [FIND_LOW] = "low",
-                                        [FIND_ORDINARY] = "ordinary",
-                                        [FIND_NOTICE] = "notice" };
-    printf("%lu %s %u %u\n", tp_number, sort[find.sort], find.number, find.length);
+    house_input input =
+        house_open(stdin, 1u << HOUSE_ORDINARY | 1u << HOUSE_LOW | 1u << HOUSE_DRAW);
+    house_setup setup;
+    c7_sender sender;
+
+    if (house_read_setup(&input, &record, &setup) &&
+        c7_sender_open(&sender, setup.tp_length, setup.stream, setup.fragment,
+                       sizeof ordinary_queue, sizeof low_queue) == C7_DONE &&
+        house_write(stdout, HOUSE_SETUP, record.data, record.length))
+        while (house_read(&input, &record) && send_one(&sender))
+            ;
+    return finish("c7send", &input);
 }
 
-/* After a 6 to 9 the TP is over, and no `none` follows. */
-static bool ends_tp(Find find)
+static bool print_find(unsigned long long tp, c7_find find)
 {
-    return find.sort == FIND_NONE ||
-           (find.sort == FIND_NOTICE && find.number <= TP_WORD_BROKEN);
+    const char *sort = find.sort == C7_FIND_LOW        ? "low"
+                       : find.sort == C7_FIND_ORDINARY ? "ordinary"
+                                                       : "notice";
+
+    return printf("%llu %s %u %zu\n", tp, sort, find.number, find.length) >= 0;
 }
 
-void command_list(void)
+/* A TP of these notices is over, or was never begun, without a none. */
+static bool ends_tp(c7_find find)
 {
-    static uint8_t room_bytes[BUFFER];
-    static Reader reader = { .program = "c7list" };
-    Span room = { room_bytes, BUFFER };
-    unsigned long tp_number = 0;
-    Setup setup;
-    Receiver receiver;
+    return find.sort == C7_FIND_REFUSED ||
+           (find.sort == C7_FIND_NOTICE && find.number <= C7_TP_BEYOND_REPAIR);
+}
 
-    reader.file = stdin;
-    if (!read_setup(&reader, &setup))
-        return;
-    receiver_open(&receiver, setup.tp_length, setup.stream, room);
-    printf("tp what content bytes\n");
-    while (read_record(&reader, KIND_TP, KIND_GAP)) {
-        if (reader.record.kind == KIND_GAP) {
-            receiver_gap(&receiver);
-            continue;
-        }
-        Span tp = { reader.record.data, reader.record.length };
-        Find find;
-        tp_number++;
-        do {
-            find = receiver_next(&receiver, tp, room);
-            if (find.sort != FIND_NONE)
-                print_find(tp_number, find);
-        } while (!ends_tp(find));
+static bool list_tp(c7_receiver *receiver, unsigned long long tp)
+{
+    for (;;) {
+        c7_find find = c7_next(receiver, record.data, record.length, room, sizeof room);
+
+        if (find.sort == C7_FIND_NONE)
+            return true;
+        if (!print_find(tp, find))
+            return false;
+        if (ends_tp(find))
+            return true;
     }
+}
+
+int command_list(void)
+{
+    house_input input = house_open(stdin, 1u << HOUSE_TP | 1u << HOUSE_GAP);
+    unsigned long long tps = 0;
+    house_setup setup;
+    c7_receiver receiver;
+
+    if (house_read_setup(&input, &record, &setup) &&
+        c7_receiver_open(&receiver, setup.tp_length, setup.stream, sizeof room) == C7_DONE &&
+        puts("tp what content bytes") >= 0)
+        while (house_read(&input, &record)) {
+            if (record.kind == HOUSE_GAP)
+                c7_gap(&receiver);
+            else if (!list_tp(&receiver, ++tps))
+                break;
+        }
+    return finish("c7list", &input);
 }
 
 int main(int count, char **words)
 {
     static const struct {
         const char *name;
-        void (*run)(void);
-    } commands[] = { { "send", command_send },
-                     { "list", command_list },
-                     { "calls", command_calls },
-                     { "vectors", command_vectors },
-                     { "words", command_words } };
+        int (*run)(void);
+    } commands[] = {
+        {"send", command_send},
+        {"list", command_list},
+        {"calls", command_calls},
+        {"vectors", command_vectors},
+        {"words", command_words},
+        {"longest", command_longest},
+    };
+    static char in_buffer[STREAM_BUFFER], out_buffer[STREAM_BUFFER];
 
     golay_init();
-    setvbuf(stdin, NULL, _IOFBF, 1 << 16);
-    setvbuf(stdout, NULL, _IOFBF, 1 << 16);
-    for (size_t i = 0; i < sizeof commands / sizeof *commands; i++) {
-        if (count == 2 && strcmp(words[1], commands[i].name) == 0) {
-            commands[i].run();
-            return 0;
-        }
-    }
-    fprintf(stderr, "usage: c7 send|list|calls|vectors|words\n");
-    return 2;
+    setvbuf(stdin, in_buffer, _IOFBF, sizeof in_buffer);
+    setvbuf(stdout, out_buffer, _IOFBF, sizeof out_buffer);
+    for (size_t i = 0; i < sizeof commands / sizeof *commands; i++)
+        if (count == 2 && strcmp(words[1], commands[i].name) == 0)
+            return commands[i].run();
+    fprintf(stderr, "usage: c7 send|list|calls|vectors|words|longest\n");
+    return EXIT_FAILURE;
 }

@@ -35,13 +35,14 @@ def same(what, got, wanted):
 
 # ---- document 01's examples ----
 
-def examples_of_words(second):
-    """1 to 3."""
-    asked = ["encode 000", "encode 001", "encode 7FF", "encode FFF", "decode 000007", "decode 00000F",
-             "decode 7FF38D", "end 07", "end 0F", "end 1F"]
-    wanted = ["000000", "0018EB", "7FF38A", "FFFFFF", "000 3", "beyond repair", "7FF 3", "00",
-              "beyond repair", "FF"]
-    same("examples 1 to 3", second("words", "\n".join(asked).encode()).decode().split("\n")[:-1], wanted)
+def examples_of_words(run):
+    """1 to 3: of a single word the digest is the answer. A decoded word answers 8 times the number plus the count."""
+    asked = [(inputs.ENCODE, 0x000, 0x000000), (inputs.ENCODE, 0x001, 0x0018EB), (inputs.ENCODE, 0x7FF, 0x7FF38A),
+             (inputs.ENCODE, 0xFFF, 0xFFFFFF), (inputs.DECODE, 0x000007, 0x000 * 8 + 3),
+             (inputs.DECODE, 0x00000F, 4), (inputs.DECODE, 0x7FF38D, 0x7FF * 8 + 3), (inputs.END, 0x07, 0x00),
+             (inputs.END, 0x0F, 256), (inputs.END, 0x1F, 0xFF)]
+    lines = run("words", b"".join(inputs.section(what, [word]) for what, word, _ in asked)).decode().splitlines()
+    same("examples 1 to 3", [int(line.split()[2]) for line in lines], [answer for _, _, answer in asked])
 
 
 def drawn(run, records, lines):
@@ -52,13 +53,13 @@ def drawn(run, records, lines):
 def examples_of_sending(run, records):
     """4, 6, 7 and 8."""
     first = drawn(run, records, ["setup 19 0 2", "ordinary 1 010203", "draw"])
-    same("example 4", first[0][4:], hexed("050EFE 00293E 0102 070833 0018EB 03"))
+    same("example 4", [tp[4:] for tp in first], [hexed("050EFE 00293E 0102 070833 0018EB 03")])
     first = drawn(run, records, ["setup 16 0 65535", "low 1 1122", "ordinary 4 33", "draw 2"])
     same("example 6", first, [hexed("00 80 99 58 04 0D 99 00 29 3E 11 22 00 10 07 B4"),
                               hexed("00 00 4A 97 00 18 EB 33 00 00 00 00 29 3E AA AA")])
     first = drawn(run, records, ["setup 16 0 65535", "ordinary 1 1122", "draw 2"])
-    same("example 7, first payload's end", first[0][12:], bytes(4))
-    same("example 7", first[1], b"\0" + packer.golay(2) + hexed("00 00 000000 004A97 AA AA AA AA"))
+    same("example 7, first payload's end", [tp[12:] for tp in first[:1]], [bytes(4)])
+    same("example 7", first[1:], [b"\0" + packer.golay(2) + hexed("00 00 000000 004A97 AA AA AA AA")])
     first = drawn(run, records, ["setup 16 0 65535", "low 1 0102030405", "low 1 010203040506", "draw 2"])
     same("example 8", [tp[1] >> 7 for tp in first], [1, 0])
 

@@ -2,316 +2,348 @@
 
 #include <string.h>
 
-#include "golay.h"
+static const c7_find none = {C7_FIND_NONE, 0, 0, 0};
 
-static const Find none = { .sort = FIND_NONE };
-
-static Find notice(uint32_t number)
+static c7_find notice(unsigned number)
 {
-    return (Find){ .sort = FIND_NOTICE, .number = number };
+    return (c7_find){C7_FIND_NOTICE, number, 0, 0};
 }
 
-static uint32_t least(uint32_t a, uint32_t b)
+static bool is_find(c7_find find)
 {
-    return a < b ? a : b;
+    return find.sort != C7_FIND_NONE;
 }
 
-static uint32_t payload_length(const Receiver *r)
+static size_t payload_length(const c7_receiver *receiver)
 {
-    return r->tp_length - TP_HEADER;
+    return receiver->tp_length - C7_TP_HEADER;
 }
 
-static bool header_decode(const uint8_t bytes[EP_HEADER], EpHeader *header)
+int c7_receiver_open(c7_receiver *receiver, size_t tp_length, unsigned stream,
+                     size_t room_length)
 {
-    Decoded word0 = golay_decode(golay_get(bytes));
-    Decoded word1 = golay_decode(golay_get(bytes + 3));
-    if (word0.flips == GOLAY_BEYOND_REPAIR || word1.flips == GOLAY_BEYOND_REPAIR)
-        return false;
-    header->content = word0.number >> 6 & 15;
-    header->fragment = word0.number >> 4 & 3;
-    header->length = (uint32_t)(word0.number & 15) << 12 | word1.number;
-    return true;
+    if (!c7_tp_settings_ok(tp_length, stream) || room_length > C7_ROOM_MAX)
+        return C7_BAD_SETTING;
+    golay_init();
+    *receiver = (c7_receiver){
+        .tp_length = tp_length,
+        .room_length = room_length,
+        .stream = (uint8_t)stream,
+        .ep = C7_EP_BEGIN,
+        .tp = C7_TP_NONE,
+    };
+    return C7_DONE;
 }
 
-static void drop_held(Receiver *r)
+static void drop_held(c7_receiver *receiver)
 {
-    r->held = false;
-    r->filled = 0;
+    receiver->held = false;
+    receiver->in_room = 0;
 }
 
-static void between_eps(Receiver *r)
+static void begin_ep(c7_receiver *receiver)
 {
-    r->ep_state = EP_IN_HEADER;
-    r->header_count = 0;
+    receiver->ep = C7_EP_BEGIN;
+    receiver->have = 0;
+    receiver->left = 0;
 }
 
-static void lose_step(Receiver *r)
+static void lose_step(c7_receiver *receiver)
 {
-    r->in_step = false;
-    between_eps(r);
-    drop_held(r);
+    receiver->in_step = false;
+    begin_ep(receiver);
+    drop_held(receiver);
 }
 
-/* ---- the TP header ---- */
-
-/* Gives the number of the notice that keeps this TP from being begun, or 0. */
-static uint32_t begin_tp(Receiver *r, const uint8_t *tp)
+/* Starts reading where the TP says that an EP begins, if one does. */
+static void resume(c7_receiver *receiver)
 {
-    if (tp[0] >> 4 != r->stream)
-        return TP_OTHER_STREAM;
-    if ((tp[0] & 3) != 0) {
-        lose_step(r);
-        return TP_BAD_VERSION;
+    if (receiver->offset == C7_NO_START) {
+        receiver->tp = C7_TP_DROPPED;
+        return;
     }
-    Decoded word = golay_decode(golay_get(tp + 1));
-    if (word.flips == GOLAY_BEYOND_REPAIR) {
-        lose_step(r);
-        return TP_WORD_BROKEN;
+    receiver->in_step = true;
+    receiver->at = receiver->offset;
+    receiver->tp = C7_TP_ORDINARY;
+}
+
+static bool reserved(uint8_t content)
+{
+    return content > C7_CONTENT_MAX;
+}
+
+/* The TP header: 8, 7, 9. */
+static c7_find begin_tp(c7_receiver *receiver, const uint8_t *tp)
+{
+    uint32_t word;
+
+    if (tp[0] >> 4 != receiver->stream)
+        return notice(C7_OTHER_STREAM);
+    if ((tp[0] & C7_VERSION_BITS) != 0) {
+        lose_step(receiver);
+        return notice(C7_BAD_VERSION);
     }
-    r->at = 0;
-    r->offset = word.number & 0x7FF;
-    r->phase = word.number & LOW_PRESENT ? TP_LOW : TP_OFFSET;
-    return 0;
-}
-
-static Find drop_rest(Receiver *r, uint32_t number)
-{
-    lose_step(r);
-    r->phase = TP_DROPPED;
-    return notice(number);
-}
-
-/* ---- the low-latency part ---- */
-
-/* Reads the header and the end byte of the LLEP at r->at; false if it is broken. */
-static bool read_low_ep(const Receiver *r, const uint8_t *payload, EpHeader *ep, EndByte *end)
-{
-    uint32_t left = payload_length(r) - r->at;
-    if (left < EP_HEADER + 1 || !header_decode(payload + r->at, ep))
-        return false;
-    if (EP_HEADER + ep->length + 1 > left)
-        return false;
-    *end = end_byte_decode(payload[r->at + EP_HEADER + ep->length]);
-    return *end != END_BROKEN;
-}
-
-static Find read_low(Receiver *r, const uint8_t *payload)
-{
-    while (r->phase == TP_LOW) {
-        EpHeader ep;
-        EndByte end;
-        if (!read_low_ep(r, payload, &ep, &end))
-            return drop_rest(r, LOW_BROKEN);
-        uint32_t start = TP_HEADER + r->at + EP_HEADER;
-        r->at += EP_HEADER + ep.length + 1;
-        r->phase = end == END_MORE ? TP_LOW : TP_OFFSET;
-        if (ep.content == CONTENT_FILL)
-            continue; /* passed over, whatever its flag */
-        if (ep.content > CONTENT_LAST || ep.fragment != WHOLE)
-            return notice(RESERVED_USE);
-        return (Find){ FIND_LOW, ep.content, start, ep.length };
+    if (golay_decode(golay_word(tp + 1), &word) == GOLAY_BEYOND) {
+        lose_step(receiver);
+        return notice(C7_TP_BEYOND_REPAIR);
     }
+    receiver->at = 0;
+    receiver->offset = word & C7_OFFSET_BITS;
+    receiver->tp = (word & C7_LOW_PRESENT) != 0 ? C7_TP_LOW : C7_TP_OFFSET;
     return none;
 }
 
-/* ---- the offset ---- */
-
-/* Reads a cut header on, without changing the receiver. Gives false if it is whole and broken;
- * *end is where the EP ends, or the payload's end if its header is still not whole. */
-static bool foresee_cut_header(const Receiver *r, const uint8_t *payload, uint32_t *end)
+/* One LLEP and its end byte. */
+static c7_find read_low(c7_receiver *receiver, const uint8_t *payload)
 {
-    uint32_t missing = EP_HEADER - r->header_count;
-    uint8_t header[EP_HEADER];
-    EpHeader ep;
-    *end = payload_length(r);
-    if (payload_length(r) - r->at < missing)
-        return true;
-    memcpy(header, r->cut_header, r->header_count);
-    memcpy(header + r->header_count, payload + r->at, missing);
-    if (!header_decode(header, &ep))
-        return false;
-    *end = r->at + missing + ep.length;
+    size_t at = receiver->at;
+    size_t rest = payload_length(receiver) - at;
+    c7_ep_header header;
+    int end = END_BEYOND;
+
+    if (rest >= C7_EP_HEADER + C7_END_BYTE && c7_get_ep_header(payload + at, &header) &&
+        (size_t)header.length + C7_EP_HEADER + C7_END_BYTE <= rest)
+        end = golay_end(payload[at + C7_EP_HEADER + header.length]);
+    if (end == END_BEYOND) {
+        lose_step(receiver);
+        receiver->tp = C7_TP_DROPPED;
+        return notice(C7_LOW_BROKEN);
+    }
+    receiver->at = at + C7_EP_HEADER + header.length + C7_END_BYTE;
+    if (end == END_LAST)
+        receiver->tp = C7_TP_OFFSET;
+    if (header.content == C7_FILL)
+        return none;
+    if (reserved(header.content) || header.fragment != C7_COMPLETE)
+        return notice(C7_NOT_READABLE);
+    return (c7_find){C7_FIND_LOW, header.content, C7_TP_HEADER + at + C7_EP_HEADER,
+                     header.length};
+}
+
+/* Where the next EP must begin in this payload; false if its cut header is beyond repair. */
+static bool foretell(const c7_receiver *receiver, const uint8_t *payload, size_t *start)
+{
+    size_t length = payload_length(receiver);
+    size_t next = receiver->at;
+
+    *start = C7_NO_START;
+    if (receiver->ep != C7_EP_BEGIN) {
+        next += receiver->left;
+    } else if (receiver->have > 0) {
+        uint8_t bytes[C7_EP_HEADER];
+        size_t missing = C7_EP_HEADER - receiver->have;
+        c7_ep_header header;
+
+        if (missing > length - next)
+            return true;
+        memcpy(bytes, receiver->bytes, receiver->have);
+        memcpy(bytes + receiver->have, payload + next, missing);
+        if (!c7_get_ep_header(bytes, &header))
+            return false;
+        next += missing + header.length;
+    }
+    if (next < length)
+        *start = next;
     return true;
 }
 
-/* Compares the offset with the foretold one; gives the number of the notice, or 0. */
-static uint32_t check_forecast(const Receiver *r, const uint8_t *payload)
+/* 10, then 12 for a cut header, then 13. */
+static c7_find judge_offset(c7_receiver *receiver, const uint8_t *payload)
 {
-    uint32_t next = r->at; /* between two EPs */
-    if (r->ep_state == EP_IN_DATA)
-        next = r->at + r->data_left;
-    else if (r->header_count > 0 && !foresee_cut_header(r, payload, &next))
-        return HEADER_BROKEN;
-    uint32_t foretold = next < payload_length(r) ? next : NO_START;
-    return foretold == r->offset ? 0 : NOT_FORETOLD;
-}
+    size_t offset = receiver->offset, start;
+    unsigned number = C7_DONE;
 
-static void start_at_offset(Receiver *r)
-{
-    if (r->offset == NO_START) {
-        r->phase = TP_DROPPED;
-        return;
+    if (offset != C7_NO_START && (offset >= payload_length(receiver) || offset < receiver->at)) {
+        lose_step(receiver);
+        receiver->tp = C7_TP_DROPPED;
+        return notice(C7_BAD_OFFSET);
     }
-    r->in_step = true;
-    r->at = r->offset;
-    r->phase = TP_ORDINARY;
-}
-
-static Find take_offset(Receiver *r, const uint8_t *payload)
-{
-    if (r->offset != NO_START && (r->offset >= payload_length(r) || r->offset < r->at))
-        return drop_rest(r, TP_BAD_OFFSET);
-    uint32_t number = 0;
-    if (r->in_step) {
-        number = check_forecast(r, payload);
-        if (number == 0) {
-            r->phase = TP_ORDINARY;
+    if (receiver->in_step) {
+        if (!foretell(receiver, payload, &start))
+            number = C7_EP_BEYOND_REPAIR;
+        else if (start != offset)
+            number = C7_OTHER_OFFSET;
+        if (number == C7_DONE) {
+            receiver->tp = C7_TP_ORDINARY;
             return none;
         }
-        lose_step(r);
+        lose_step(receiver);
     }
-    start_at_offset(r);
-    return number == 0 ? none : notice(number);
+    resume(receiver);
+    return number == C7_DONE ? none : notice(number);
 }
 
-/* ---- ordinary bytes ---- */
-
-/* Gives the number of the notice for the whole header, or 0. Either way the EP is then in its
- * data, except after a 14 that leaves it to be judged once more without the held series. */
-static uint32_t judge(Receiver *r, uint32_t room_length)
+/* Adds header bytes; 12 if they are whole and beyond repair. */
+static c7_find read_header(c7_receiver *receiver, const uint8_t *payload)
 {
-    const EpHeader *ep = &r->ep;
-    bool fill = ep->content == CONTENT_FILL;
-    bool joins = !fill && (ep->fragment == MIDDLE || ep->fragment == LAST);
-    if (r->held && !joins) {
-        drop_held(r);
-        return SERIES_BROKEN;
+    size_t run =
+        c7_smaller(C7_EP_HEADER - receiver->have, payload_length(receiver) - receiver->at);
+
+    memcpy(receiver->bytes + receiver->have, payload + receiver->at, run);
+    receiver->have += run;
+    receiver->at += run;
+    if (receiver->have < C7_EP_HEADER)
+        return none;
+    /* A header cut by a TP end was found good by the forecast. */
+    if (!c7_get_ep_header(receiver->bytes, &receiver->header)) {
+        lose_step(receiver);
+        receiver->tp = C7_TP_DROPPED;
+        return notice(C7_EP_BEYOND_REPAIR);
     }
-    r->ep_state = EP_IN_DATA;
-    r->data_left = ep->length;
-    r->keep = false;
-    if (joins && !(r->held && r->held_content == ep->content)) {
-        drop_held(r);
-        return SERIES_BROKEN;
-    }
-    if (fill)
-        return 0;
-    if (ep->content > CONTENT_LAST)
-        return RESERVED_USE;
-    if (r->filled + ep->length > room_length) {
-        drop_held(r);
-        return ROOM_FULL;
-    }
-    r->keep = true;
-    return 0;
+    receiver->left = receiver->header.length;
+    receiver->ep = C7_EP_SERIES;
+    return none;
 }
 
-/* The EP's last byte is read: hands out a packet, holds a fragment, or neither. */
-static Find finish_ep(Receiver *r)
+/* 14: does the EP suit what is held? */
+static c7_find judge_series(c7_receiver *receiver)
 {
-    between_eps(r);
-    if (!r->keep)
+    c7_ep_header header = receiver->header;
+    bool fill = header.content == C7_FILL;
+    bool joins = !fill && header.fragment >= C7_MIDDLE;
+    bool suits = joins ? receiver->held && receiver->held_content == header.content
+                       : !receiver->held;
+
+    receiver->ep = fill || (joins && !suits) ? C7_EP_PASS : C7_EP_ROOM;
+    if (suits)
         return none;
-    if (r->ep.fragment == FIRST || r->ep.fragment == MIDDLE) {
-        r->held = true;
-        r->held_content = r->ep.content;
+    drop_held(receiver);
+    return notice(C7_SERIES_BROKEN);
+}
+
+/* 16, then 15. */
+static c7_find judge_room(c7_receiver *receiver)
+{
+    c7_ep_header header = receiver->header;
+
+    if (reserved(header.content)) {
+        receiver->ep = C7_EP_PASS;
+        return notice(C7_NOT_READABLE);
+    }
+    if (receiver->in_room + header.length > receiver->room_length) {
+        drop_held(receiver);
+        receiver->ep = C7_EP_PASS;
+        return notice(C7_ROOM_FULL);
+    }
+    receiver->ep = C7_EP_COPY;
+    return none;
+}
+
+/* Reads data; the packet if its last byte was among them. */
+static c7_find read_data(c7_receiver *receiver, const uint8_t *payload, uint8_t *room)
+{
+    size_t run = c7_smaller(receiver->left, payload_length(receiver) - receiver->at);
+    bool copy = receiver->ep == C7_EP_COPY;
+    c7_ep_header header = receiver->header;
+
+    /* A room of no bytes may have no address. */
+    if (copy && run > 0) {
+        memcpy(room + receiver->in_room, payload + receiver->at, run);
+        receiver->in_room += run;
+    }
+    receiver->at += run;
+    receiver->left -= run;
+    if (receiver->left > 0)
+        return none;
+    begin_ep(receiver);
+    if (!copy)
+        return none;
+    if (header.fragment == C7_FIRST || header.fragment == C7_MIDDLE) {
+        receiver->held = true;
+        receiver->held_content = header.content;
         return none;
     }
-    Find packet = { FIND_ORDINARY, r->ep.content, 0, r->filled };
-    drop_held(r);
+
+    c7_find packet = {C7_FIND_ORDINARY, header.content, 0, receiver->in_room};
+
+    drop_held(receiver);
     return packet;
 }
 
-static void read_header(Receiver *r, const uint8_t *payload)
+/* Ordinary bytes up to the next find or the payload's end. */
+static c7_find read_ordinary(c7_receiver *receiver, const uint8_t *payload, uint8_t *room)
 {
-    uint32_t length = least(EP_HEADER - r->header_count, payload_length(r) - r->at);
-    memcpy(r->cut_header + r->header_count, payload + r->at, length);
-    r->header_count += length;
-    r->at += length;
-}
+    size_t length = payload_length(receiver);
 
-static void read_data(Receiver *r, const uint8_t *payload, Span room)
-{
-    uint32_t length = least(r->data_left, payload_length(r) - r->at);
-    if (r->keep && length > 0) {
-        memcpy(room.bytes + r->filled, payload + r->at, length);
-        r->filled += length;
-    }
-    r->data_left -= length;
-    r->at += length;
-}
-
-static Find read_ordinary(Receiver *r, const uint8_t *payload, Span room)
-{
     for (;;) {
-        if (r->ep_state == EP_IN_HEADER) {
-            read_header(r, payload);
-            if (r->header_count < EP_HEADER)
+        c7_find find = none;
+
+        switch (receiver->ep) {
+        case C7_EP_BEGIN:
+            if (receiver->at == length)
                 return none;
-            if (!header_decode(r->cut_header, &r->ep))
-                return drop_rest(r, HEADER_BROKEN);
-            r->ep_state = EP_TO_JUDGE;
+            find = read_header(receiver, payload);
+            break;
+        case C7_EP_SERIES:
+            find = judge_series(receiver);
+            break;
+        case C7_EP_ROOM:
+            find = judge_room(receiver);
+            break;
+        case C7_EP_COPY:
+        case C7_EP_PASS:
+            /* An EP without data ends here even at the payload's end. */
+            if (receiver->at == length && receiver->left > 0)
+                return none;
+            find = read_data(receiver, payload, room);
+            break;
         }
-        if (r->ep_state == EP_TO_JUDGE) {
-            uint32_t number = judge(r, (uint32_t)room.length);
-            if (number != 0)
-                return notice(number);
-        }
-        read_data(r, payload, room);
-        if (r->data_left > 0)
-            return none;
-        Find packet = finish_ep(r);
-        if (packet.sort != FIND_NONE)
-            return packet;
+        if (is_find(find))
+            return find;
     }
 }
 
-/* ---- the calls ---- */
-
-int receiver_open(Receiver *r, uint32_t tp_length, uint32_t stream, Span room)
+c7_find c7_next(c7_receiver *receiver, const uint8_t *tp, size_t tp_length, uint8_t *room,
+                size_t room_length)
 {
-    if (tp_length < TP_LENGTH_MIN || tp_length > TP_LENGTH_MAX || stream > STREAM_MAX ||
-        room.length > ROOM_MAX)
-        return OUTSIDE_LIMITS;
-    *r = (Receiver){ .tp_length = tp_length, .stream = stream, .room_length = room.length };
-    return DONE;
+    c7_find find;
+
+    if (receiver->tp_length == 0 || room_length != receiver->room_length)
+        return (c7_find){C7_FIND_REFUSED, C7_BAD_SETTING, 0, 0};
+    if (tp_length != receiver->tp_length)
+        return notice(C7_BAD_TP_LENGTH);
+
+    const uint8_t *payload = tp + C7_TP_HEADER;
+
+    if (receiver->tp == C7_TP_NONE && is_find(find = begin_tp(receiver, tp)))
+        return find;
+    while (receiver->tp == C7_TP_LOW)
+        if (is_find(find = read_low(receiver, payload)))
+            return find;
+    if (receiver->tp == C7_TP_OFFSET && is_find(find = judge_offset(receiver, payload)))
+        return find;
+    if (receiver->tp == C7_TP_ORDINARY && is_find(find = read_ordinary(receiver, payload, room)))
+        return find;
+    receiver->tp = C7_TP_NONE;
+    return none;
 }
 
-Find receiver_next(Receiver *r, Span tp, Span room)
+void c7_gap(c7_receiver *receiver)
 {
-    if (room.length != r->room_length)
-        return notice(OUTSIDE_LIMITS);
-    if (tp.length != r->tp_length)
-        return notice(TP_BAD_LENGTH);
-    if (r->phase == TP_NOT_BEGUN) {
-        uint32_t number = begin_tp(r, tp.bytes);
-        if (number != 0)
-            return notice(number);
+    lose_step(receiver);
+    receiver->tp = C7_TP_NONE;
+}
+
+const uint8_t *c7_stretch(c7_find find, const uint8_t *tp, size_t tp_length, const uint8_t *room,
+                          size_t room_length)
+{
+    const uint8_t *from;
+    size_t length;
+
+    switch (find.sort) {
+    case C7_FIND_LOW:
+        from = tp;
+        length = tp_length;
+        break;
+    case C7_FIND_ORDINARY:
+        from = room;
+        length = room_length;
+        break;
+    default:
+        return NULL;
     }
-    const uint8_t *payload = tp.bytes + TP_HEADER;
-    Find find = none;
-    if (r->phase == TP_LOW)
-        find = read_low(r, payload);
-    if (find.sort == FIND_NONE && r->phase == TP_OFFSET)
-        find = take_offset(r, payload);
-    if (find.sort == FIND_NONE && r->phase == TP_ORDINARY)
-        find = read_ordinary(r, payload, room);
-    if (find.sort == FIND_NONE)
-        r->phase = TP_NOT_BEGUN;
-    return find;
-}
-
-void receiver_gap(Receiver *r)
-{
-    lose_step(r);
-    r->phase = TP_NOT_BEGUN;
-}
-
-Span receiver_found(Find find, Span tp, Span room)
-{
-    if (find.sort == FIND_LOW)
-        return (Span){ tp.bytes + find.start, find.length };
-    if (find.sort == FIND_ORDINARY)
-        return (Span){ room.bytes, find.length };
-    return (Span){ NULL, 0 };
+    /* A find of other buffers names nothing in these. */
+    if (find.start > length || find.length > length - find.start)
+        return NULL;
+    return from == NULL ? NULL : from + find.start;
 }

@@ -1,65 +1,75 @@
-/* The receiving end: transport packets in, source packets and notices out. */
+/* The receiver: one find a call out of the transport packets lent to it. */
 #ifndef RECEIVER_H
 #define RECEIVER_H
 
-#include <stdbool.h>
-
 #include "packets.h"
 
-#define ROOM_MAX 131072
-
-typedef enum { FIND_NONE, FIND_LOW, FIND_ORDINARY, FIND_NOTICE } Sort;
-
-typedef struct {
-    Sort sort;
-    uint32_t number; /* content of a packet, number of a notice */
-    uint32_t start;  /* of the packet: in the TP if low, in the room if ordinary */
-    uint32_t length;
-} Find;
-
-/* What the next call of the begun TP does first. */
-typedef enum { TP_NOT_BEGUN, TP_LOW, TP_OFFSET, TP_ORDINARY, TP_DROPPED } Phase;
-
-typedef enum { EP_IN_HEADER, EP_TO_JUDGE, EP_IN_DATA } EpState;
+typedef enum {
+    C7_FIND_NONE,
+    C7_FIND_LOW,      /* stretch of the TP */
+    C7_FIND_ORDINARY, /* stretch of the room */
+    C7_FIND_NOTICE,   /* number 6 to 16 */
+    C7_FIND_REFUSED   /* number 1 */
+} c7_find_sort;
 
 typedef struct {
-    uint32_t content;
-    uint32_t fragment;
-    uint32_t length;
-} EpHeader;
+    c7_find_sort sort;
+    unsigned number; /* content of a packet, number of a notice or refusal */
+    size_t start;    /* of the stretch, 0 without one */
+    size_t length;
+} c7_find;
+
+/* How far the begun TP has been read. */
+typedef enum {
+    C7_TP_NONE, /* the next call begins a TP */
+    C7_TP_LOW,
+    C7_TP_OFFSET,
+    C7_TP_ORDINARY,
+    C7_TP_DROPPED
+} c7_tp_phase;
+
+/* What the next ordinary byte belongs to. */
+typedef enum {
+    C7_EP_BEGIN,  /* a header, of which `have` bytes are known */
+    C7_EP_SERIES, /* header whole, 14 not yet checked */
+    C7_EP_ROOM,   /* 14 checked, 16 and 15 not yet */
+    C7_EP_COPY,   /* data of an SP */
+    C7_EP_PASS    /* data of no use */
+} c7_ep_phase;
 
 typedef struct {
-    uint32_t tp_length;
-    uint32_t stream;
+    size_t tp_length; /* 0: not opened */
     size_t room_length;
+    uint8_t stream;
 
     bool in_step;
-    EpState ep_state;
-    uint8_t cut_header[EP_HEADER];
-    uint32_t header_count; /* header bytes read; 0 between two EPs */
-    EpHeader ep;           /* once the header is whole */
-    uint32_t data_left;
-    bool keep; /* the data are copied to the room */
+    c7_ep_phase ep;
+    size_t have;
+    uint8_t bytes[C7_EP_HEADER];
+    c7_ep_header header;
+    size_t left;    /* data bytes of the EP not yet read */
+    size_t in_room; /* bytes of the SP in work or held */
+    bool held;
+    uint8_t held_content;
 
-    bool held; /* a series of fragments of held_content waits for more */
-    uint32_t held_content;
-    uint32_t filled; /* room bytes of the held series and the EP being copied */
+    c7_tp_phase tp;
+    size_t at;     /* next payload byte of the begun TP */
+    size_t offset; /* that the begun TP announces */
+} c7_receiver;
 
-    Phase phase;
-    uint32_t at; /* next payload byte */
-    uint32_t offset;
-} Receiver;
+/* C7_DONE or C7_BAD_SETTING, which leaves *receiver as it was. */
+int c7_receiver_open(c7_receiver *receiver, size_t tp_length, unsigned stream,
+                     size_t room_length);
 
-int receiver_open(Receiver *r, uint32_t tp_length, uint32_t stream, Span room);
+/* The next find of the begun TP, or the first of a new one. */
+c7_find c7_next(c7_receiver *receiver, const uint8_t *tp, size_t tp_length, uint8_t *room,
+                size_t room_length);
 
-/* One find of this TP; the same TP and room are lent until the find is none or a 6 to 9.
- * A notice of number 1 is a room of another length. */
-Find receiver_next(Receiver *r, Span tp, Span room);
+/* Bytes were lost here: ends a begun TP and step. */
+void c7_gap(c7_receiver *receiver);
 
-/* Transport packets were lost before the next one. */
-void receiver_gap(Receiver *r);
-
-/* The stretch of the lent buffers that a packet came back as; empty for other finds. */
-Span receiver_found(Find find, Span tp, Span room);
+/* First byte of a packet's stretch in what was lent; NULL for a find without one. */
+const uint8_t *c7_stretch(c7_find find, const uint8_t *tp, size_t tp_length, const uint8_t *room,
+                          size_t room_length);
 
 #endif

@@ -1,262 +1,265 @@
 #include "sender.h"
 
-#include <stdbool.h>
 #include <string.h>
 
-#include "golay.h"
-
-static size_t least(size_t a, size_t b)
+static size_t place(const c7_queue *queue, size_t from_head)
 {
-    return a < b ? a : b;
+    size_t at = queue->head + from_head;
+
+    return at < queue->length ? at : at - queue->length;
 }
 
-/* ---- rings ---- */
-
-static size_t ring_place(const Ring *ring, size_t index)
+/* The bytes may have no address if there are none. */
+static void queue_add(c7_queue *queue, uint8_t *buffer, const uint8_t *bytes, size_t count)
 {
-    return (ring->head + index) % ring->length;
-}
-
-/* Copies queued bytes from the index-th on; the caller knows that they are queued. */
-static void ring_copy(const Ring *ring, Span buffer, size_t index, uint8_t *to, size_t length)
-{
-    if (length == 0)
+    if (count == 0)
         return;
-    size_t place = ring_place(ring, index);
-    size_t before_end = least(length, ring->length - place);
-    memcpy(to, buffer.bytes + place, before_end);
-    memcpy(to + before_end, buffer.bytes, length - before_end);
+
+    size_t at = place(queue, queue->queued);
+    size_t run = c7_smaller(count, queue->length - at);
+
+    memcpy(buffer + at, bytes, run);
+    memcpy(buffer, bytes + run, count - run);
+    queue->queued += count;
 }
 
-/* Adds bytes behind the queued ones; the caller knows that there is room. */
-static void ring_add(Ring *ring, Span buffer, const uint8_t *from, size_t length)
+static void queue_copy(const c7_queue *queue, const uint8_t *buffer, size_t from_head,
+                       uint8_t *to, size_t count)
 {
-    if (length == 0)
+    size_t at = place(queue, from_head);
+    size_t run = c7_smaller(count, queue->length - at);
+
+    memcpy(to, buffer + at, run);
+    memcpy(to + run, buffer, count - run);
+}
+
+static void queue_drop(c7_queue *queue, size_t count)
+{
+    if (count == 0)
         return;
-    size_t place = ring_place(ring, ring->count);
-    size_t before_end = least(length, ring->length - place);
-    memcpy(buffer.bytes + place, from, before_end);
-    if (before_end < length)
-        memcpy(buffer.bytes, from + before_end, length - before_end);
-    ring->count += length;
+    queue->head = place(queue, count);
+    queue->queued -= count;
 }
 
-static void ring_take(Ring *ring, Span buffer, uint8_t *to, size_t length)
+static size_t payload_length(const c7_sender *sender)
 {
-    ring_copy(ring, buffer, 0, to, length);
-    ring->head = ring_place(ring, length);
-    ring->count -= length;
+    return sender->tp_length - C7_TP_HEADER;
 }
 
-/* ---- opening and offers ---- */
-
-static void put_ep_header(uint8_t to[EP_HEADER], uint32_t content, uint32_t fragment,
-                          uint32_t length)
+static bool is_opening(const c7_sender *sender, c7_buffer ordinary, c7_buffer low)
 {
-    golay_put(to, content << 6 | fragment << 4 | length >> 12);
-    golay_put(to + 3, length & 0xFFF);
+    return sender->tp_length != 0 && ordinary.length == sender->ordinary.length &&
+           low.length == sender->low.length;
 }
 
-static void add_ep(Ring *ring, Span buffer, uint32_t content, uint32_t fragment,
+static bool content_ok(unsigned content)
+{
+    return content >= C7_CONTENT_MIN && content <= C7_CONTENT_MAX;
+}
+
+int c7_sender_open(c7_sender *sender, size_t tp_length, unsigned stream, size_t fragment,
+                   size_t ordinary_length, size_t low_length)
+{
+    if (!c7_tp_settings_ok(tp_length, stream) || fragment < C7_FRAGMENT_MIN ||
+        fragment > C7_FRAGMENT_MAX || ordinary_length > C7_QUEUE_MAX || low_length > C7_QUEUE_MAX)
+        return C7_BAD_SETTING;
+    golay_init();
+    *sender = (c7_sender){
+        .tp_length = tp_length,
+        .fragment = fragment,
+        .ordinary = {.length = ordinary_length},
+        .low = {.length = low_length},
+        .stream = (uint8_t)stream,
+    };
+    return C7_DONE;
+}
+
+static void add_ep(c7_queue *queue, uint8_t *buffer, unsigned content, unsigned fragment,
                    const uint8_t *data, size_t length)
 {
-    uint8_t header[EP_HEADER];
-    put_ep_header(header, content, fragment, (uint32_t)length);
-    ring_add(ring, buffer, header, EP_HEADER);
-    ring_add(ring, buffer, data, length);
+    uint8_t header[C7_EP_HEADER];
+
+    c7_put_ep_header(header,
+                     (c7_ep_header){(uint8_t)content, (uint8_t)fragment, (uint16_t)length});
+    queue_add(queue, buffer, header, sizeof header);
+    queue_add(queue, buffer, data, length);
 }
 
-static uint32_t payload_length(const Sender *s)
+int c7_offer_ordinary(c7_sender *sender, c7_buffer ordinary, c7_buffer low, unsigned content,
+                      const uint8_t *sp, size_t sp_length)
 {
-    return s->tp_length - TP_HEADER;
-}
+    c7_queue *queue = &sender->ordinary;
 
-static bool same_buffers(const Sender *s, Span ordinary, Span low)
-{
-    return ordinary.length == s->ordinary.length && low.length == s->low.length;
-}
+    if (!is_opening(sender, ordinary, low))
+        return C7_BAD_SETTING;
+    if (!content_ok(content))
+        return C7_BAD_CONTENT;
+    if (sp_length > C7_SP_MAX)
+        return C7_TOO_LONG;
 
-static bool content_offered(uint32_t content)
-{
-    return content >= CONTENT_FIRST && content <= CONTENT_LAST;
-}
+    /* An SP without bytes is one EP too. */
+    size_t pieces = sp_length == 0 ? 1 : (sp_length - 1) / sender->fragment + 1;
 
-int sender_open(Sender *s, uint32_t tp_length, uint32_t stream, uint32_t piece, Span ordinary,
-                Span low)
-{
-    if (tp_length < TP_LENGTH_MIN || tp_length > TP_LENGTH_MAX || stream > STREAM_MAX ||
-        piece < 1 || piece > 65535 || ordinary.length > SENDER_QUEUE_MAX ||
-        low.length > SENDER_QUEUE_MAX)
-        return OUTSIDE_LIMITS;
-    *s = (Sender){ .tp_length = tp_length,
-                   .stream = stream,
-                   .piece = piece,
-                   .ordinary = { .length = ordinary.length },
-                   .low = { .length = low.length } };
-    return DONE;
-}
-
-static size_t pieces_needed(const Sender *s, size_t length)
-{
-    return length <= s->piece ? 1 : (length + s->piece - 1) / s->piece;
-}
-
-static uint32_t fragment_flag(size_t piece, size_t pieces)
-{
-    if (pieces == 1)
-        return WHOLE;
-    if (piece == 0)
-        return FIRST;
-    return piece + 1 == pieces ? LAST : MIDDLE;
-}
-
-int sender_offer_ordinary(Sender *s, uint32_t content, const uint8_t *data, size_t length,
-                          Span ordinary, Span low)
-{
-    if (!same_buffers(s, ordinary, low))
-        return OUTSIDE_LIMITS;
-    if (!content_offered(content))
-        return BAD_CONTENT;
-    if (length > ORDINARY_MAX)
-        return TOO_LONG;
-    size_t pieces = pieces_needed(s, length);
-    if (pieces * EP_HEADER + length > s->ordinary.length - s->ordinary.count)
-        return QUEUE_FULL;
+    if (sp_length + pieces * C7_EP_HEADER > queue->length - queue->queued)
+        return C7_QUEUE_FULL;
+    if (pieces == 1) {
+        add_ep(queue, ordinary.at, content, C7_COMPLETE, sp, sp_length);
+        return C7_DONE;
+    }
     for (size_t i = 0; i < pieces; i++) {
-        size_t start = i * s->piece;
-        add_ep(&s->ordinary, ordinary, content, fragment_flag(i, pieces), data + start,
-               least(s->piece, length - start));
+        size_t from = i * sender->fragment;
+        size_t length = c7_smaller(sender->fragment, sp_length - from);
+        unsigned fragment = i == 0 ? C7_FIRST : i == pieces - 1 ? C7_LAST : C7_MIDDLE;
+
+        add_ep(queue, ordinary.at, content, fragment, sp + from, length);
     }
-    return DONE;
+    return C7_DONE;
 }
 
-int sender_offer_low(Sender *s, uint32_t content, const uint8_t *data, size_t length,
-                     Span ordinary, Span low)
+int c7_offer_low(c7_sender *sender, c7_buffer ordinary, c7_buffer low, unsigned content,
+                 const uint8_t *sp, size_t sp_length)
 {
-    if (!same_buffers(s, ordinary, low))
-        return OUTSIDE_LIMITS;
-    if (!content_offered(content))
-        return BAD_CONTENT;
-    if (length + EP_HEADER + 1 > payload_length(s))
-        return TOO_LONG;
-    if (EP_HEADER + length > s->low.length - s->low.count)
-        return QUEUE_FULL;
-    add_ep(&s->low, low, content, WHOLE, data, length);
-    return DONE;
+    c7_queue *queue = &sender->low;
+
+    if (!is_opening(sender, ordinary, low))
+        return C7_BAD_SETTING;
+    if (!content_ok(content))
+        return C7_BAD_CONTENT;
+    if (sp_length > payload_length(sender) - C7_EP_HEADER - C7_END_BYTE)
+        return C7_TOO_LONG;
+    if (sp_length + C7_EP_HEADER > queue->length - queue->queued)
+        return C7_QUEUE_FULL;
+    add_ep(queue, low.at, content, C7_COMPLETE, sp, sp_length);
+    return C7_DONE;
 }
 
-/* ---- drawing ---- */
-
-/* Bytes of the whole, acceptable EP at the low-latency queue's head; 0 if there is none
- * (the queue is empty, or someone else wrote into it). */
-static size_t low_head_size(const Sender *s, Span low)
+/* The number bits of a queued header as they stand: nothing flips bits in a queue. */
+static c7_ep_header plain_header(const uint8_t at[C7_EP_HEADER])
 {
-    uint8_t header[EP_HEADER];
-    if (s->low.count < EP_HEADER)
-        return 0;
-    ring_copy(&s->low, low, 0, header, EP_HEADER);
-    uint32_t word0 = golay_get(header), word1 = golay_get(header + 3);
-    uint32_t number0 = word0 >> 12, number1 = word1 >> 12;
-    if (golay_encode(number0) != word0 || golay_encode(number1) != word1)
-        return 0;
-    uint32_t content = number0 >> 6; /* with the two reserved bits above, which must be zero */
-    uint32_t fragment = number0 >> 4 & 3;
-    size_t size = EP_HEADER + ((number0 & 15) << 12 | number1);
-    if (!content_offered(content) || fragment != WHOLE || size + 1 > payload_length(s))
-        return 0;
-    return size <= s->low.count ? size : 0;
+    return c7_ep_header_of(golay_word(at) >> 12, golay_word(at + GOLAY_BYTES) >> 12);
 }
 
-/* Puts the low-latency part at the payload's start and gives its length. */
-static uint32_t put_low(Sender *s, Span low, uint8_t *payload)
+/* Bytes of the whole low-latency EP at a place of its queue, 0 if no offer put one there. */
+static size_t low_ep_at(const c7_sender *sender, const uint8_t *buffer, size_t from_head)
 {
-    uint32_t at = 0;
-    size_t size = low_head_size(s, low);
-    while (size != 0 && at + size + 1 <= payload_length(s)) {
-        ring_take(&s->low, low, payload + at, size);
-        at += (uint32_t)size + 1;
-        size = low_head_size(s, low);
-        bool more = size != 0 && at + size + 1 <= payload_length(s);
-        payload[at - 1] = more ? 0xFF : 0x00;
+    const c7_queue *queue = &sender->low;
+    size_t rest = queue->queued - from_head;
+    uint8_t bytes[C7_EP_HEADER], accepted[C7_EP_HEADER];
+
+    if (rest < C7_EP_HEADER)
+        return 0;
+    queue_copy(queue, buffer, from_head, bytes, sizeof bytes);
+
+    c7_ep_header header = plain_header(bytes);
+
+    if (!content_ok(header.content) || header.fragment != C7_COMPLETE ||
+        (size_t)header.length + C7_EP_HEADER > rest ||
+        (size_t)header.length + C7_EP_HEADER + C7_END_BYTE > payload_length(sender))
+        return 0;
+    /* Catches wrong parity and reserved bits. */
+    c7_put_ep_header(accepted, header);
+    if (memcmp(bytes, accepted, sizeof bytes) != 0)
+        return 0;
+    return (size_t)header.length + C7_EP_HEADER;
+}
+
+/* Bytes of the ordinary EP at the head, kept within the queue if someone overwrote it. */
+static size_t ordinary_ep(const c7_queue *queue, const uint8_t *buffer)
+{
+    uint8_t bytes[C7_EP_HEADER];
+
+    if (queue->queued < C7_EP_HEADER)
+        return queue->queued;
+    queue_copy(queue, buffer, 0, bytes, sizeof bytes);
+    return c7_smaller((size_t)plain_header(bytes).length + C7_EP_HEADER, queue->queued);
+}
+
+/* Length of the low-latency part written to the payload. */
+static size_t draw_low(c7_sender *sender, const uint8_t *buffer, uint8_t *payload)
+{
+    size_t at = 0, taken = 0;
+
+    for (;;) {
+        size_t ep = low_ep_at(sender, buffer, taken);
+
+        if (ep == 0 || ep + C7_END_BYTE > payload_length(sender) - at)
+            break;
+        if (at > 0)
+            payload[at - 1] = END_MORE;
+        queue_copy(&sender->low, buffer, taken, payload + at, ep);
+        taken += ep;
+        at += ep;
+        payload[at++] = END_LAST;
     }
+    queue_drop(&sender->low, taken);
     return at;
 }
 
-static uint32_t put_owed(Sender *s, uint8_t *payload, uint32_t at)
+/* Takes bytes off the head, keeping count of where the EPs begin. */
+static void pass_ordinary(c7_sender *sender, const uint8_t *buffer, size_t count)
 {
-    uint32_t length = (uint32_t)least(s->owed, payload_length(s) - at);
-    memset(payload + at, 0, length);
-    s->owed -= length;
-    return at + length;
-}
+    while (count > 0) {
+        if (sender->ep_left == 0)
+            sender->ep_left = ordinary_ep(&sender->ordinary, buffer);
 
-/* Bytes of the ordinary EP at its queue's head, never more than are queued. */
-static size_t ordinary_head_size(const Sender *s, Span ordinary)
-{
-    uint8_t header[EP_HEADER];
-    if (s->ordinary.count < EP_HEADER)
-        return s->ordinary.count; /* only where someone else wrote into the queue */
-    ring_copy(&s->ordinary, ordinary, 0, header, EP_HEADER);
-    uint32_t number0 = golay_get(header) >> 12, number1 = golay_get(header + 3) >> 12;
-    return least(EP_HEADER + ((number0 & 15) << 12 | number1), s->ordinary.count);
-}
+        size_t run = c7_smaller(count, sender->ep_left);
 
-static void note_start(uint32_t *first_start, uint32_t at)
-{
-    if (*first_start == NO_START)
-        *first_start = at;
-}
-
-static uint32_t put_ordinary(Sender *s, Span ordinary, uint8_t *payload, uint32_t at,
-                             uint32_t *first_start)
-{
-    while (at < payload_length(s) && s->ordinary.count > 0) {
-        if (s->ep_left == 0) {
-            s->ep_left = ordinary_head_size(s, ordinary);
-            note_start(first_start, at);
-        }
-        size_t length = least(s->ep_left, payload_length(s) - at);
-        ring_take(&s->ordinary, ordinary, payload + at, length);
-        s->ep_left -= length;
-        at += (uint32_t)length;
+        queue_drop(&sender->ordinary, run);
+        sender->ep_left -= run;
+        count -= run;
     }
-    return at;
 }
 
-/* Fills what is left of the payload with one fill EP, whose header may run into the next draws. */
-static void put_fill(Sender *s, uint8_t *payload, uint32_t at, uint32_t *first_start)
+/* Fills the rest of a payload with one fill EP, which may owe bytes. */
+static void draw_fill(c7_sender *sender, uint8_t *at, size_t rest)
 {
-    uint32_t rest = payload_length(s) - at;
-    if (rest == 0)
-        return;
-    note_start(first_start, at);
-    if (rest >= EP_HEADER) {
-        put_ep_header(payload + at, CONTENT_FILL, WHOLE, rest - EP_HEADER);
-        memset(payload + at + EP_HEADER, 0xAA, rest - EP_HEADER);
+    if (rest >= C7_EP_HEADER) {
+        size_t length = rest - C7_EP_HEADER;
+
+        c7_put_ep_header(at, (c7_ep_header){C7_FILL, C7_COMPLETE, (uint16_t)length});
+        memset(at + C7_EP_HEADER, C7_FILL_DATA, length);
     } else {
-        memset(payload + at, 0, rest); /* the header of an empty fill EP is six zero bytes */
-        s->owed = EP_HEADER - rest;
+        /* The header of a fill EP without data is six zero bytes. */
+        memset(at, 0, rest);
+        sender->owed = C7_EP_HEADER - rest;
     }
 }
 
-static bool low_queue_overwritten(const Sender *s, Span low)
+int c7_draw(c7_sender *sender, c7_buffer ordinary, c7_buffer low, uint8_t *tp, size_t tp_length)
 {
-    return s->low.count > 0 && low_head_size(s, low) == 0;
-}
+    if (!is_opening(sender, ordinary, low))
+        return C7_BAD_SETTING;
+    if (sender->low.queued > 0 && low_ep_at(sender, low.at, 0) == 0)
+        return C7_BAD_SETTING;
+    if (tp_length != sender->tp_length)
+        return C7_BAD_DRAW_LENGTH;
 
-int sender_draw(Sender *s, Span tp, Span ordinary, Span low)
-{
-    if (!same_buffers(s, ordinary, low) || low_queue_overwritten(s, low))
-        return OUTSIDE_LIMITS;
-    if (tp.length != s->tp_length)
-        return BAD_DRAW_BUFFER;
-    uint8_t *payload = tp.bytes + TP_HEADER;
-    uint32_t first_start = NO_START;
-    uint32_t low_end = put_low(s, low, payload);
-    uint32_t at = put_owed(s, payload, low_end);
-    at = put_ordinary(s, ordinary, payload, at, &first_start);
-    put_fill(s, payload, at, &first_start);
-    tp.bytes[0] = (uint8_t)(s->stream << 4);
-    golay_put(tp.bytes + 1, (low_end > 0 ? LOW_PRESENT : 0) | first_start);
-    return DONE;
+    uint8_t *payload = tp + C7_TP_HEADER;
+    size_t length = payload_length(sender);
+    size_t at = draw_low(sender, low.at, payload);
+    uint32_t word = at > 0 ? C7_LOW_PRESENT : 0;
+
+    /* What comes after the owed bytes and the begun EP begins here, be it queued or fill. */
+    size_t start = at + sender->owed + sender->ep_left;
+
+    word |= start < length ? (uint32_t)start : C7_NO_START;
+    tp[0] = (uint8_t)(sender->stream << 4);
+    golay_put(tp + 1, word);
+
+    size_t owed = c7_smaller(sender->owed, length - at);
+
+    memset(payload + at, 0, owed);
+    sender->owed -= owed;
+    at += owed;
+
+    size_t run = c7_smaller(sender->ordinary.queued, length - at);
+
+    if (run > 0) {
+        queue_copy(&sender->ordinary, ordinary.at, 0, payload + at, run);
+        pass_ordinary(sender, ordinary.at, run);
+        at += run;
+    }
+    if (at < length)
+        draw_fill(sender, payload + at, length - at);
+    return C7_DONE;
 }

@@ -1,36 +1,45 @@
-/* The sending end: source packets in, transport packets out. */
+/* The sender: queues of encoded EPs, drawn as transport packets. */
 #ifndef SENDER_H
 #define SENDER_H
 
 #include "packets.h"
 
-#define SENDER_QUEUE_MAX 1048576
-#define ORDINARY_MAX 131072
+/* A queue buffer lent for one call. */
+typedef struct {
+    uint8_t *at;
+    size_t length;
+} c7_buffer;
 
-/* Where the queued bytes are in a lent buffer: from `head` on, round its end. */
+/* Where the queued bytes stand in their buffer, round its end. */
 typedef struct {
     size_t length; /* of the buffer */
-    size_t head;
-    size_t count;
-} Ring;
+    size_t head;   /* place of the first queued byte */
+    size_t queued;
+} c7_queue;
 
 typedef struct {
-    uint32_t tp_length;
-    uint32_t stream;
-    uint32_t piece; /* F: the most data bytes of an ordinary EP */
-    Ring ordinary;
-    Ring low;
-    uint32_t owed;   /* zero bytes of a fill header, due in the next draws */
-    size_t ep_left;  /* bytes not yet drawn of the ordinary EP that is partly drawn */
-} Sender;
+    size_t tp_length; /* 0: not opened */
+    size_t fragment;
+    c7_queue ordinary;
+    c7_queue low;
+    size_t ep_left; /* queued bytes of the ordinary EP that has begun to leave */
+    size_t owed;    /* fill header bytes still to send */
+    uint8_t stream;
+} c7_sender;
 
-/* Each call gives 0 or the number of its refusal, and takes the buffers of the opening. */
-int sender_open(Sender *s, uint32_t tp_length, uint32_t stream, uint32_t piece, Span ordinary,
-                Span low);
-int sender_offer_ordinary(Sender *s, uint32_t content, const uint8_t *data, size_t length,
-                          Span ordinary, Span low);
-int sender_offer_low(Sender *s, uint32_t content, const uint8_t *data, size_t length,
-                     Span ordinary, Span low);
-int sender_draw(Sender *s, Span tp, Span ordinary, Span low);
+/* C7_DONE or C7_BAD_SETTING, which leaves *sender as it was. */
+int c7_sender_open(c7_sender *sender, size_t tp_length, unsigned stream, size_t fragment,
+                   size_t ordinary_length, size_t low_length);
+
+/* C7_DONE or 1 to 4; only C7_DONE changes anything. */
+int c7_offer_ordinary(c7_sender *sender, c7_buffer ordinary, c7_buffer low, unsigned content,
+                      const uint8_t *sp, size_t sp_length);
+
+/* C7_DONE or 1 to 4; only C7_DONE changes anything. */
+int c7_offer_low(c7_sender *sender, c7_buffer ordinary, c7_buffer low, unsigned content,
+                 const uint8_t *sp, size_t sp_length);
+
+/* C7_DONE, 1 or 5; only C7_DONE changes anything, and writes all of tp. */
+int c7_draw(c7_sender *sender, c7_buffer ordinary, c7_buffer low, uint8_t *tp, size_t tp_length);
 
 #endif
