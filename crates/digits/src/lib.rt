@@ -36,8 +36,20 @@ pub fn from_two(a: u8, b: u8) -> usize
     a as usize * 256 + b as usize
 }
 
+pub fn from_three(a: u8, b: u8, c: u8) -> u32
+    ensures { λ r. ⌜ r ≡ number 0 (a ∷ b ∷ c ∷ []) ⌝ }
+{
+    (a as u32 * 256 + b as u32) * 256 + c as u32
+}
+
 pub fn from_four(a: u8, b: u8, c: u8, d: u8) -> usize
     ensures { λ r. ⌜ r ≡ number 0 (a ∷ b ∷ c ∷ d ∷ []) ⌝ }
 {
     ((a as usize * 256 + b as usize) * 256 + c as usize) * 256 + d as usize
+}
+
+pub fn from_six(a: u8, b: u8, c: u8, d: u8, e: u8, f: u8) -> u64
+    ensures { λ r. ⌜ r ≡ number 0 (a ∷ b ∷ c ∷ d ∷ e ∷ f ∷ []) ⌝ }
+{
+    from_three(a, b, c) as u64 * 16777216 + from_three(d, e, f) as u64
 }

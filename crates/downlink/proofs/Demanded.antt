@@ -16,7 +16,7 @@ use Rattle.receiver.specs.Frame.{lost}
 use Rattle.receiver.specs.Join.{free}
 use Rattle.receiver.specs.Low.{wire}
 use Rattle.receiver.specs.Tp.{Setting, Stand, Listing, listingAll}
-use Rattle.downlink.specs.Run.{Tp, tps, deeds, left, undrawn}
+use Rattle.sender.specs.Run.{Tp, tps, deeds, left, undrawn}
 use Rattle.downlink.specs.Damage.{items, allEps, EpsNear, arrived}
 use Rattle.downlink.specs.Demand.{carried, lowsDue, ordinaryDue, Demand3}
 use Rattle.downlink.proofs.Window.{bytes}

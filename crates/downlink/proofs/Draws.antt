@@ -18,8 +18,8 @@ use Rattle.sender.specs.Answers as A
 use Rattle.sender.specs.Drawing.{overwritten, leave, some, part, fill, lacking, stream, owedAfter, under, offset, Draw, drawWith, drawOf, drawBy, took}
 use Rattle.sender.specs.Drawing as D
 use Rattle.receiver.specs.Low.{wire}
-use Rattle.downlink.specs.Run.{draw, World, Tp, drew, next, deed, leaving, filling}
-use Rattle.downlink.specs.Run as N
+use Rattle.sender.specs.Run.{draw, World, Tp, drew, next, deed, leaving, filling}
+use Rattle.sender.specs.Run as N
 use Rattle.downlink.specs.Damage.{fillers}
 use Rattle.downlink.specs.Hearing.{Packet}
 use Rattle.downlink.proofs.Window.{bytes, before}

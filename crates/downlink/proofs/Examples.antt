@@ -14,7 +14,7 @@ use Rattle.sender.specs.Opening.{fresh}
 use Rattle.sender.specs.Offering.{pieces, spBytes, known, wantOrdinary, ordinaryOffered, wantLow, lowOffered}
 use Rattle.sender.specs.Drawing.{headAt, sizeIn, contentIn, lowIn, lowAt, overwritten, leave, part, fill, lacking, stream, owedAfter, span, under, offset, drawWith, drawOf, drawBy}
 use Rattle.sender.specs.Drawing as D
-use Rattle.downlink.specs.Run.{Tp, Call, ordinary, low, draw, World, Deed, took, tookLow, drew, deeds}
+use Rattle.sender.specs.Run.{Tp, Call, ordinary, low, draw, World, Deed, took, tookLow, drew, deeds}
 use Rattle.downlink.specs.Damage.{filler, arrived}
 use Rattle.downlink.specs.Hearing.{Packet}
 use Rattle.downlink.specs.Demand.{size, begunThere, lastDrawn, Right}

@@ -16,8 +16,8 @@ use Rattle.sender.specs.declared.Sender.{Sender}
 use Rattle.sender.specs.Answers.{lent}
 use Rattle.sender.specs.Offering.{later, pieces, spBytes, no, put, known, wantOrdinary, wantLow, putOrdinary, putLow, ordinaryOffered, lowOffered}
 use Rattle.receiver.specs.Low.{wire}
-use Rattle.downlink.specs.Run.{ordinary, low, World, Deed, refused, took, tookLow, next, deed}
-use Rattle.downlink.specs.Run as N
+use Rattle.sender.specs.Run.{ordinary, low, World, Deed, refused, took, tookLow, next, deed}
+use Rattle.sender.specs.Run as N
 use Rattle.downlink.specs.Hearing.{Packet}
 use Rattle.downlink.proofs.Window.{bytes, bytes-append}
 use Rattle.downlink.proofs.Marks.{Cells, epsCells, eps-bytes, Plain, Good, good-append, AllSent, good-eps}

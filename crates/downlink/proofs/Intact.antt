@@ -17,16 +17,17 @@ use Rattle.sender.specs.declared.Answer.the-variants.{Done}
 use Rattle.sender.specs.Opening.{opened}
 use Rattle.sender.specs.Drawing.{some, part, offset}
 use Rattle.receiver.specs.Low.{wire}
-use Rattle.downlink.specs.Run.{Call, World, Tp, tps, deeds, left, undrawn}
+use Rattle.sender.specs.Run.{Call, World, Tp, tps, deeds, left, undrawn}
 use Rattle.downlink.specs.Damage.{Item, filler, packet, items, eps, allEps, arrived, Bytes, Near, NearEnd, HeadNear, EpsNear, LlepsNear, TpNear, TpsNear, Damaged}
 use Rattle.downlink.specs.Hearing.{Packet}
-use Rattle.downlink.proofs.Window.{bytes, bytes-append, before}
-use Rattle.downlink.proofs.Marks.{eps-bytes, AllSent}
+use Rattle.downlink.proofs.Window.{bytes, before}
+use Rattle.downlink.proofs.Marks.{AllSent}
 use Rattle.downlink.proofs.Lows.{llep, lleps}
-use Rattle.downlink.proofs.Loads.{Load, owns, itemCells, itemsCells, TpIs, TpsAre, ItemOk, ItemsOk}
+use Rattle.downlink.proofs.Loads.{Load, TpIs, TpsAre, ItemOk, ItemsOk}
 use Rattle.downlink.proofs.Holds.{pieces-sent}
 use Rattle.downlink.proofs.Repair.{first-word, second-word}
-use Rattle.downlink.proofs.Runs.{run, left-bytes, limits, start}
+use Rattle.downlink.proofs.Runs.{run, limits, start}
+use Rattle.downlink.proofs.Laws.{sent, ordinary-law}
 
 -- ---- words and end bytes
 
@@ -89,10 +90,6 @@ lleps-near (p ∷ ps) z =
 
 -- ---- TPs
 
-abbrev pub asSent : List Tp → List (List ℕ)
-asSent [] = []
-asSent (t ∷ ts) = t .bytes ∷ asSent ts
-
 module _ (P str F : ℕ) (top : P ≤ 2047) where
   module _ (t : Tp) (l : Load) (is : TpIs P str F top t l) where
     abbrev o : ℕ
@@ -116,19 +113,11 @@ module _ (P str F : ℕ) (top : P ≤ 2047) where
       subst⁻¹ (λ (es : List (List ℕ)). LlepsNear es (drop 4 (t .bytes))) (is .lleps-are) (subst⁻¹ (LlepsNear (lleps (l .now))) payload-is (lleps-near (l .now) (bytes wire (l .own)))),
     )
 
-    own-is : drop (4 + length (part (t .lleps))) (t .bytes) ≡ bytes wire (l .own)
-    own-is =
-        ap (λ (es : List (List ℕ)). drop (4 + length (part es)) (t .bytes)) (is .lleps-are)
-        ∙ sym (drop-drop (length (part (lleps (l .now)))) 4 (t .bytes)) ∙ ap (drop (length (part (lleps (l .now))))) payload-is
-        ∙ drop-at (part (lleps (l .now))) (bytes wire (l .own)) (length (part (lleps (l .now)))) refl
-
-  tps-near : (ts : List Tp) (ls : List Load) → TpsAre P str F top ts ls → TpsNear ts (asSent ts) × (arrived ts (asSent ts) ≡ bytes wire (owns ls))
-  tps-near [] [] is = (tt, refl)
+  tps-near : (ts : List Tp) (ls : List Load) → TpsAre P str F top ts ls → TpsNear ts (sent ts)
+  tps-near [] [] is = tt
   tps-near [] (l ∷ ls) is = absurd is
   tps-near (t ∷ ts) [] is = absurd is
-  tps-near (t ∷ ts) (l ∷ ls) is =
-      let r = tps-near ts ls (is .1) in
-      ((tp-near t l (is .0), r .0), ap₂ (λ (a b : List ℕ). a ++ b) (own-is t l (is .0)) (r .1) ∙ sym (bytes-append wire (l .own) (owns ls)))
+  tps-near (t ∷ ts) (l ∷ ls) is = (tp-near t l (is .0), tps-near ts ls (is .1))
 
   -- ---- the items
 
@@ -150,20 +139,9 @@ module _ (P str F : ℕ) (top : P ≤ 2047) where
     items-sent [] ok = tt
     items-sent (i ∷ is) ok = sent-append (eps i) (allEps is) (item-sent i (ok .0)) (items-sent is (ok .1))
 
-flatten-append : (xs ys : List (List ℕ)) → flatten (xs ++ ys) ≡ flatten xs ++ flatten ys
-unfolding flatten
-flatten-append [] ys = refl
-flatten-append (x ∷ xs) ys = ap (λ l. x ++ l) (flatten-append xs ys) ∙ sym (append-assoc x (flatten xs) (flatten ys))
-
-items-bytes : (is : List Item) → bytes wire (itemsCells is) ≡ flatten (allEps is)
-unfolding flatten
-items-bytes [] = refl
-items-bytes (i ∷ is) =
-    bytes-append wire (itemCells i) (itemsCells is) ∙ ap₂ (λ (a b : List ℕ). a ++ b) (eps-bytes (eps i)) (items-bytes is) ∙ sym (flatten-append (eps i) (allEps is))
-
 -- NO DAMAGE is within the limits, whatever the calls
 pub undamaged : (size stream F : ℕ) (w : World) → opened size stream F (length (w .low)) (length (w .ordinary)) ≡ Done (w .sender)
-    → (cs : List Call) → Damaged (tps (deeds w cs)) (allEps (items F (deeds w cs))) (undrawn (left w cs)) (asSent (tps (deeds w cs)))
+    → (cs : List Call) → Damaged (tps (deeds w cs)) (allEps (items F (deeds w cs))) (undrawn (left w cs)) (sent (tps (deeds w cs)))
 undamaged size stream F w is-open cs =
     let lim = limits size stream F (w .low) (w .ordinary) (w .sender) is-open in
     let size₂ : size ≤ 2051 = lim .1 in
@@ -172,8 +150,9 @@ undamaged size stream F w is-open cs =
     let ran = run P stream F (length (w .low)) (length (w .ordinary)) top (lim .3) (lim .4) w cs [] [] (start size stream F (w .low) (w .ordinary) (w .sender) is-open top (lim .3) (lim .4)) in
     let fl = ran .flows in
     let is : List Item = items F (deeds w cs) in
-    let near = tps-near P stream F top (tps (deeds w cs)) (fl .loads) (fl .tps-are) in
-    let all-is : arrived (tps (deeds w cs)) (asSent (tps (deeds w cs))) ++ undrawn (left w cs) ≡ flatten (allEps is) ++ [] =
-    ap₂ (λ (a b : List ℕ). a ++ b) (near .1) (sym (left-bytes P stream F (length (w .low)) (length (w .ordinary)) top (lim .3) (lim .4) (left w cs) (ran .lows′) (ran .pend′) (ran .holds)))
-    ∙ sym (bytes-append wire (owns (fl .loads)) (ran .pend′)) ∙ ap (bytes wire) (fl .flow) ∙ items-bytes is ∙ sym (append-nil (flatten (allEps is))) in
-    record { tps = near .0; eps = subst⁻¹ (EpsNear (allEps is)) all-is (eps-near (allEps is) [] (items-sent P stream F top (lim .3) (lim .4) is (fl .items-ok))) }
+    let all-is : arrived (tps (deeds w cs)) (sent (tps (deeds w cs))) ++ undrawn (left w cs) ≡ flatten (allEps is) ++ [] =
+    ordinary-law size stream F w is-open cs ∙ sym (append-nil (flatten (allEps is))) in
+    record {
+      tps = tps-near P stream F top (tps (deeds w cs)) (fl .loads) (fl .tps-are);
+      eps = subst⁻¹ (EpsNear (allEps is)) all-is (eps-near (allEps is) [] (items-sent P stream F top (lim .3) (lim .4) is (fl .items-ok)));
+    }

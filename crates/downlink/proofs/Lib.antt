@@ -16,6 +16,7 @@ pub mod Taken
 pub mod Holds
 pub mod Draws
 pub mod Runs
+pub mod Laws
 -- the receiver over damaged TPs
 pub mod Repair
 pub mod Arrive

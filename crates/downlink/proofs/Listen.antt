@@ -15,7 +15,7 @@ use Rattle.receiver.specs.Frame.{Frame, Event, lose, opened, entered, fed, clos
 use Rattle.receiver.specs.Join.{Finding, notice, low, ordinary, Held, free, held, Took, broken, goes-on, meets, handed, finish, told, fits, further, admit, take-in, listed, holding, finds}
 use Rattle.receiver.specs.Low.{wire}
 use Rattle.receiver.specs.Tp.{Setting, Heard, Stand, Input, tpIn, inputOf, listing, listingAll}
-use Rattle.downlink.specs.Run.{Tp}
+use Rattle.sender.specs.Run.{Tp}
 use Rattle.downlink.specs.Damage.{TpNear, TpsNear}
 use Rattle.downlink.specs.Hearing.{Packet}
 use Rattle.downlink.specs.Demand.{lowsIn}

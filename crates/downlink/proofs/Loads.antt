@@ -7,7 +7,7 @@ use Rattle.wire.specs.Wire.{ep, tpHeader}
 use Rattle.sender.specs.Offering.{pieces}
 use Rattle.sender.specs.Drawing.{some, part, offset}
 use Rattle.receiver.specs.Low.{wire}
-use Rattle.downlink.specs.Run.{Tp, Deed, refused, took, tookLow, drew, tps}
+use Rattle.sender.specs.Run.{Tp, Deed, refused, took, tookLow, drew, tps}
 use Rattle.downlink.specs.Damage.{Item, filler, packet, fillers, items, eps}
 use Rattle.downlink.specs.Hearing.{Packet}
 use Rattle.downlink.specs.Demand.{lowsTaken}

@@ -116,7 +116,7 @@ module _ (P : ℕ) (top : P ≤ 2047) where
   unfolding leave
   stops k r q e = rw e
 
-  goes : (k r : ℕ) (p : Packet) (q : List ℕ) → LowOk p → 7 + length (p .1) ≤ r
+  pub goes : (k r : ℕ) (p : Packet) (q : List ℕ) → LowOk p → 7 + length (p .1) ≤ r
       → leave (suc k) P (llep p ++ q) r ≡ llep p ∷ leave k P q (r - (7 + length (p .1)))
   unfolding leave
   goes k r p q o h =

@@ -15,7 +15,7 @@ use Rattle.sender.specs.declared.Sender.{Sender}
 use Rattle.sender.specs.declared.Answer.the-variants.{Done, Refused}
 use Rattle.sender.specs.Opening.{allowed, small, empty, fresh, opened}
 use Rattle.receiver.specs.Low.{wire}
-use Rattle.downlink.specs.Run.{Call, ordinary, low, draw, World, next, deed, deeds, left, undrawn}
+use Rattle.sender.specs.Run.{Call, ordinary, low, draw, World, next, deed, deeds, left, undrawn}
 use Rattle.downlink.specs.Hearing.{Packet}
 use Rattle.downlink.proofs.Window.{bytes, bytes-append}
 use Rattle.downlink.proofs.Marks.{Cells, Plain, Good}

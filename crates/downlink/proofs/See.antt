@@ -26,7 +26,7 @@ use Rattle.receiver.specs.Join.{Finding, low}
 use Rattle.receiver.specs.Low.{wire, sized, llep, Part, ahead, walk, lowPart}
 use Rattle.receiver.specs.Low as L
 use Rattle.receiver.specs.Tp.{Heard, lowPartIf, behind, worded, heard}
-use Rattle.downlink.specs.Run.{Tp}
+use Rattle.sender.specs.Run.{Tp}
 use Rattle.downlink.specs.Damage.{Near, NearEnd, LlepsNear, TpNear}
 use Rattle.downlink.specs.Hearing.{Packet}
 use Rattle.downlink.proofs.Window.{bytes, before, read, part}

@@ -10,7 +10,7 @@ use Rattle.sender.specs.Drawing as D
 use Rattle.receiver.specs.Frame.{lost}
 use Rattle.receiver.specs.Join.{free, finds}
 use Rattle.receiver.specs.Low.{wire}
-use Rattle.downlink.specs.Run.{Tp}
+use Rattle.sender.specs.Run.{Tp}
 use Rattle.downlink.specs.Damage.{Item, allEps, TpsNear, EpsNear, arrived}
 use Rattle.downlink.specs.Hearing.{Packet}
 use Rattle.downlink.specs.Demand.{carried, lowsIn, lowsDue, ordinaryDue}

@@ -8,7 +8,7 @@ use Rattle.digits.specs.Digits.{number}
 use Rattle.golay.specs.Golay.{distance, byteDistance}
 use Rattle.sender.specs.Offering.{pieces}
 use Rattle.sender.specs.Drawing.{some, part}
-use Rattle.downlink.specs.Run.{Tp, Deed, refused, took, tookLow, drew}
+use Rattle.sender.specs.Run.{Tp, Deed, refused, took, tookLow, drew}
 
 -- ---- what the ordinary bytes are made of, in order
 

@@ -10,7 +10,7 @@ use Rattle.sender.specs.declared.Answer.the-variants.{Done}
 use Rattle.sender.specs.Opening.{opened}
 use Rattle.receiver.specs.declared.Opened.the-variants.{Ready}
 use Rattle.receiver.specs.Call.{OpenedAs}
-use Rattle.downlink.specs.Run.{Call, World, Tp, Deed, refused, took, tookLow, drew, tps, deeds, left, undrawn}
+use Rattle.sender.specs.Run.{Call, World, Tp, Deed, refused, took, tookLow, drew, tps, deeds, left, undrawn}
 use Rattle.downlink.specs.Hearing as H
 use Rattle.downlink.specs.Hearing.{Place, Called, Hears, Packet, handedOut}
 use Rattle.downlink.specs.Damage.{Item, filler, packet, items, eps, allEps, arrived, Damaged}

@@ -12,7 +12,7 @@ use Rattle.golay.specs.declared.End.{End}
 use Rattle.golay.specs.declared.End.the-variants.{Zeros, Ones, Neither}
 use Rattle.sender.specs.Opening.{fresh}
 use Rattle.sender.specs.Offering.{pieces}
-use Rattle.sender.specs.Run.{Call, ordinary, low, draw, World, Out, refused, took, tookLow, drawn, outs}
+use Rattle.sender.specs.Run.{Call, ordinary, low, draw, World, Tp, deeds, tps}
 use Rattle.receiver.specs.Frame.{lost}
 use Rattle.receiver.specs.Join as J
 use Rattle.receiver.specs.Join.{Finding, free}
@@ -23,13 +23,14 @@ use Rattle.receiver.specs.Tp.{Input, tpIn, listingAll}
 abbrev pub opened : World
 opened = record { sender = fresh 16 0 65535 32 32; low = replicate 32 0; ordinary = replicate 32 0 }
 
--- the TPs that it gives in a run of calls
-abbrev pub tps : List Out → List (List ℕ)
-tps [] = []
-tps (refused k ∷ os) = tps os
-tps (took c d ∷ os) = tps os
-tps (tookLow c d ∷ os) = tps os
-tps (drawn b l ∷ os) = b ∷ tps os
+-- a draw into a cleared buffer
+abbrev pub drawn : Call
+drawn = draw (replicate 16 0)
+
+-- the bytes of the TPs that it gives in a run of calls
+abbrev pub bytesOf : List Tp → List (List ℕ)
+bytesOf [] = []
+bytesOf (t ∷ ts) = t .bytes ∷ bytesOf ts
 
 -- the finds of a receiver of the same settings, with a room of one byte
 abbrev pub inputs : List (List ℕ) → List Input
@@ -54,7 +55,7 @@ Holds (encodes n w) = codeWord n ≡ w
 Holds (decodes w r) = Decodes w r
 Holds (ends b r) = endOf b ≡ r
 Holds (cuts F c d es) = pieces F c d ≡ es
-Holds (sends cs bs) = tps (outs opened cs) ≡ bs
+Holds (sends cs bs) = bytesOf (tps (deeds opened cs)) ≡ bs
 Holds (reads bs fs) = read bs ≡ fs
 
 -- all of a list hold
@@ -84,9 +85,9 @@ examples =
     ∷ ends 0x1F Ones
     ∷ cuts 2 1 (0x11 ∷ 0x22 ∷ 0x33 ∷ [])
     ((0x05 ∷ 0x0E ∷ 0xFE ∷ 0x00 ∷ 0x29 ∷ 0x3E ∷ 0x11 ∷ 0x22 ∷ []) ∷ (0x07 ∷ 0x08 ∷ 0x33 ∷ 0x00 ∷ 0x18 ∷ 0xEB ∷ 0x33 ∷ []) ∷ [])
-    ∷ sends (low 1 (0x11 ∷ 0x22 ∷ []) ∷ ordinary 4 (0x33 ∷ []) ∷ draw ∷ draw ∷ []) sixth
+    ∷ sends (low 1 (0x11 ∷ 0x22 ∷ []) ∷ ordinary 4 (0x33 ∷ []) ∷ drawn ∷ drawn ∷ []) sixth
     ∷ reads sixth (J.low 1 (0x11 ∷ 0x22 ∷ []) ∷ J.ordinary 4 (0x33 ∷ []) ∷ [])
-    ∷ sends (ordinary 1 (0x11 ∷ 0x22 ∷ []) ∷ draw ∷ draw ∷ [])
+    ∷ sends (ordinary 1 (0x11 ∷ 0x22 ∷ []) ∷ drawn ∷ drawn ∷ [])
     ((0x00 ∷ 0x00 ∷ 0x00 ∷ 0x00 ∷ 0x04 ∷ 0x0D ∷ 0x99 ∷ 0x00 ∷ 0x29 ∷ 0x3E ∷ 0x11 ∷ 0x22 ∷ 0x00 ∷ 0x00 ∷ 0x00 ∷ 0x00 ∷ [])
     ∷ (0x00 ∷ 0x00 ∷ 0x29 ∷ 0x3E ∷ 0x00 ∷ 0x00 ∷ 0x00 ∷ 0x00 ∷ 0x00 ∷ 0x00 ∷ 0x4A ∷ 0x97 ∷ 0xAA ∷ 0xAA ∷ 0xAA ∷ 0xAA ∷ [])
     ∷ [])

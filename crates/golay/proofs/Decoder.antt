@@ -32,6 +32,13 @@ pub syndrome-lt : (w : ℕ) → syndrome w < 4096
 unfolding syndrome within
 syndrome-lt w = xor-lt 12 (chosen checks (low w)) (high w) (chosen-lt 12 (low w) checks tt) (mod-lt (w / 4096) (lit< tt))
 
+-- the number's half of a word, as it is and with the syndrome flipped in it
+pub half-lt : (w n : ℕ) → n ≡ high w → n < 4096
+half-lt w n half = rw half (mod-lt (w / 4096) (lit< tt))
+
+pub turned-lt : (w n s : ℕ) → n ≡ high w → s ≡ syndrome w → bitXor n s < 4096
+turned-lt w n s half check = xor-lt 12 n s (half-lt w n half) (rw check (syndrome-lt w))
+
 module _ (w x : ℕ) (c : Corrects (syndrome w) x) where
   pub near : (x ≡ 0xFFFF → ⊥) → (bitXor (high w) x < 4096) × (distance w (codeWord (bitXor (high w) x)) ≤ 3)
   near some =
@@ -56,12 +63,19 @@ pub intact : (w : ℕ) → syndrome w ≡ 0 → Decodes w (Word (high w) 0)
 unfolding Decodes syndrome weight chosen onesIn
 intact w e = (mod-lt (w / 4096) (lit< tt), rw (xor-zero-r (high w)) at (repaired w 0 e), lit≤ tt)
 
+-- a number whose code word lies within three flips is the answer
+pub tried : (w n c : ℕ) → n < 4096 → c ≡ distance w (codeWord n) → c ≤ 3 → Decodes w (Word n c)
+unfolding Decodes
+tried w n c lt e few = (lt, sym e, few)
+
 -- what the entry says to flip, and how many flips that makes
-pub repairs : (w n x v : ℕ) → n ≡ high w → Corrects (syndrome w) x → (x ≡ 0xFFFF → ⊥) → v ≡ codeWord (bitXor n x)
-    → Decodes w (Word (bitXor n x) (ones (bitXor w v % 2 ^ 24)))
-unfolding Decodes distance weight
-repairs w n x v half c some code =
-    let m = bitXor (high w) x in
-    let close = near w x c some in
-    let count : ones (bitXor w (codeWord m) % 2 ^ 24) ≡ onesIn 24 (bitXor w (codeWord m)) = ones-in 24 (bitXor w (codeWord m)) in
-    rw (code, half) (close .0, sym count, rw count (close .1))
+pub repairs : (w n x c : ℕ) → n ≡ high w → Corrects (syndrome w) x → (x ≡ 0xFFFF → ⊥) → c ≡ distance w (codeWord (bitXor n x))
+    → Decodes w (Word (bitXor n x) c)
+repairs w n x c half entry some count =
+    let close : (bitXor n x < 4096) × (distance w (codeWord (bitXor n x)) ≤ 3) = rw half (near w x entry some) in
+    tried w (bitXor n x) c (close .0) count (omega (arith, close .1))
+
+-- how the flips are counted
+pub counted : (w n v : ℕ) → v ≡ codeWord n → ones (bitXor w v % 2 ^ 24) ≡ distance w (codeWord n)
+unfolding distance weight
+counted w n v code = rw code (ones-in 24 (bitXor w (codeWord n)))

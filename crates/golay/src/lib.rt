@@ -1,10 +1,12 @@
 // The extended Golay code of IRIG 106-23 Chapter 7, Appendix A, and the low-latency end byte.
 ghost use mathlib.Core.Path.{_≡_};
 ghost use Prim.Native.Nat.{_<_};
-ghost use Rattle.golay.specs.Golay.{chosen, parity, codeWord, high, syndrome, entryOf};
+ghost use lib.Dec.{eqb};
+ghost use Rattle.golay.specs.Golay.{chosen, parity, codeWord, distance, high, syndrome, entryOf};
 ghost use Rattle.golay.specs.Answers.{Corrects, Decodes, endOf};
 
 mod corrections;
+pub mod pair;
 
 use corrections::CORRECTIONS;
 
@@ -95,8 +97,15 @@ fn correction(s: u16) -> u16
     entry(&CORRECTIONS, s)
 }
 
-// A word that is no code word.
-fn repaired(w: u32, number: u16, s: u16) -> Decoded
+// How many of the 24 low bits of w differ from the code word of n.
+fn flips_to(w: u32, n: u16) -> u32
+    ensures { λ r. ⌜ r ≡ distance w (codeWord n) ⌝ }
+{
+    u32::count_ones((w ^ encode(n)) % 0x100_0000)
+}
+
+// By the table, the read of which copies it to the stack.
+fn looked_up(w: u32, number: u16, s: u16) -> Decoded
     requires { ⌜ (number ≡ high w) × (s ≡ syndrome w) ⌝ }
     ensures { λ r. ⌜ Decodes w r ⌝ }
 {
@@ -105,19 +114,55 @@ fn repaired(w: u32, number: u16, s: u16) -> Decoded
         return Decoded::Beyond;
     }
     let right = number ^ flipped;
-    let flips = u32::count_ones((w ^ encode(right)) % 0x100_0000);
+    let flips = flips_to(w, right);
     Decoded::Word {
         number: right,
         flips: flips as u8,
     }
 }
 
-// What the 24 low bits of w say. An intact word leaves before the table, whose read copies it to the stack.
+// A word that is no code word. Where one half alone was flipped, as by any single flip, the other half gives the number.
+fn repaired(w: u32, number: u16, s: u16) -> Decoded
+    requires { ⌜ (number ≡ high w) × (s ≡ syndrome w) ⌝ }
+    ensures { λ r. ⌜ Decodes w r ⌝ }
+{
+    let behind = flips_to(w, number);
+    if behind <= 3 {
+        return Decoded::Word {
+            number,
+            flips: behind as u8,
+        };
+    }
+    let right = number ^ s;
+    let before = flips_to(w, right);
+    if before <= 3 {
+        return Decoded::Word {
+            number: right,
+            flips: before as u8,
+        };
+    }
+    looked_up(w, number, s)
+}
+
+fn syndrome_of(w: u32) -> u16
+    ensures { λ r. ⌜ r ≡ syndrome w ⌝ }
+{
+    combined(CHECKS, (w % 4096) as u16) ^ ((w >> 12) % 4096) as u16
+}
+
+// Whether the 24 low bits of w are a code word.
+pub fn is_intact(w: u32) -> bool
+    ensures { λ r. ⌜ r ≡ eqb (syndrome w) 0 ⌝ }
+{
+    syndrome_of(w) == 0
+}
+
+// What the 24 low bits of w say. An intact word leaves at once.
 pub fn decode(w: u32) -> Decoded
     ensures { λ r. ⌜ Decodes w r ⌝ }
 {
     let number = ((w >> 12) % 4096) as u16;
-    let s = combined(CHECKS, (w % 4096) as u16) ^ number;
+    let s = syndrome_of(w);
     if s == 0 {
         return Decoded::Word { number, flips: 0 };
     }

@@ -1,7 +1,7 @@
 -- Laws of lists that are cut and pasted over, and of the copy. Assumes nothing.
 use mathlib.Core.Path.{_≡_, refl, sym, ap, _∙_}
 use Prim.Native.Nat.{ℕ, zero, suc, _+_, _-_, _≤_, _<_, min}
-use native.Mathlib.Nat.{zero-add, suc-add, add-assoc, sub-zero}
+use native.Mathlib.Nat.{zero-add, suc-add, add-assoc}
 use native.Mathlib.Omega.{arith}
 use mathlib.Core.Bool.{Bool, true, false}
 use mathlib.Core.Logic.{_⊎_, inl, inr, ⊎-elim}
@@ -9,7 +9,7 @@ use lib.Dec.{leb}
 use borrow.Author.Tests.{leb-true, leb-false}
 use mathlib.Core.List.{List, [], _∷_, _++_, append-assoc, append-nil}
 use lib.ListN.{length, take, drop, length-append, length-drop, take-append-drop}
-use lib.Seq.{paste, paste-zero, take-all, take-length, take-append-add, drop-append-add, drop-drop, length-take-le, drop-nil, take-nil, length-paste, take-at, drop-length}
+use lib.Seq.{paste, paste-zero, take-all, take-length, take-append-add, drop-append-add, take-take, drop-drop, length-take-le, drop-nil, take-nil, length-paste, take-at, drop-length}
 use Rattle.queue.specs.Ring.{copied}
 
 pub drop-take : (n m : ℕ) (l : List ℕ) → drop n (take (n + m) l) ≡ take m (drop n l)
@@ -33,9 +33,13 @@ paste-two r s₁ s₂ l p =
     drop-past (take l r ++ s₁) (drop (l + length s₁) r) (l + length s₁ + length s₂) (length s₂) (omega arith) ∙ drop-drop (length s₂) (l + length s₁) r in
     simp take-length (rw (take-at (take l r ++ s₁) (drop (l + length s₁) r) (l + length s₁) a, d) (simp (length-append, append-assoc, add-assoc)))
 
--- a list as its first k elements and the others, as code takes the parts
-pub parts : (s : List ℕ) (k : ℕ) → take (k - 0) s ++ take (length s - k) (drop k s) ≡ s
-parts s k = rw (sub-zero, take-all (length s - k) (drop k s) (omega (arith, length-drop k s))) (take-append-drop k s)
+-- a list as its first k elements and the others, as code takes them
+pub parts : (s : List ℕ) (k : ℕ) → take k s ++ take (length s - k) (drop k s) ≡ s
+parts s k = rw (take-all (length s - k) (drop k s) (omega (arith, length-drop k s))) (take-append-drop k s)
+
+-- a paste of a list's first elements
+pub paste-part : (d s : List ℕ) (at k : ℕ) → k ≤ length s → paste d at s k ≡ paste d at (take k s) (length (take k s))
+paste-part d s at k p = rw (length-take-le k s p, take-take k k s (omega arith))
 
 -- a whole list pasted over, in one run and in two
 pub over : (d s d′ : List ℕ) → length s ≡ length d → d′ ≡ paste d 0 s (length s) → d′ ≡ s

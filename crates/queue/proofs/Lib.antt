@@ -2,3 +2,4 @@ pub mod Copies
 pub mod Runs
 pub mod Puts
 pub mod Takes
+pub mod Sixes

@@ -1,14 +1,18 @@
 -- A ring's bytes written and read in straight runs. Assumes nothing.
-use mathlib.Core.Path.{_≡_, sym, ap, _∙_}
-use Prim.Native.Nat.{ℕ, _+_, _-_, _≤_, _<_}
+use mathlib.Core.Path.{_≡_, refl, sym, ap, _∙_}
+use mathlib.Core.Bool.{cond}
+use mathlib.Core.Logic.{⊎-elim}
+use Prim.Native.Nat.{ℕ, _+_, _-_, _≤_, _<_, min}
 use native.Mathlib.Nat.{sub-zero}
 use native.Mathlib.Omega.{arith}
+use lib.Dec.{leb}
+use borrow.Author.Tests.{le-leb, lt-leb}
 use mathlib.Core.List.{List, _++_, append-assoc}
 use lib.ListN.{length, take, drop, length-append, length-take, length-drop, take-append-drop}
-use lib.Seq.{paste, take-all, take-length, take-append-le, drop-append-le, take-take, drop-drop, length-take-le, length-paste, take-at, drop-at, take-add}
+use lib.Seq.{paste, paste-zero, take-all, take-length, take-append-le, drop-append-le, take-take, drop-drop, length-take-le, length-paste, take-at, drop-at, take-add}
 use Rattle.queue.specs.declared.Ring.{Ring}
 use Rattle.queue.specs.Ring.{copied, around, held, written, Kept}
-use Rattle.queue.proofs.Copies.{drop-take, take-past, drop-past, paste-two, parts, over, over-two, copied-all}
+use Rattle.queue.proofs.Copies.{drop-take, take-past, drop-past, paste-two, parts, paste-part, over, over-two, copied-all, split}
 
 -- a run that starts at the tail and ends in the buffer
 pub after : (b s : List ℕ) (h l : ℕ) → h + l + length s ≤ length b → around (paste b (h + l) s (length s)) h ≡ paste (around b h) l s (length s)
@@ -93,6 +97,14 @@ undo b h p =
     let d = length-drop h b in
     rw (drop-at (drop h b) (take h b) (length b - h) d, take-at (drop h b) (take h b) (length b - h) d) (take-append-drop h b)
 
+-- the index behind what is held
+module _ (cap head len : ℕ) (p : head ≤ cap) where
+  pub tail-past : cap - head ≤ len → len - (cap - head) ≡ cond (leb cap (head + len)) (head + len - cap) (head + len)
+  tail-past h = let e : len - (cap - head) ≡ head + len - cap = omega arith in e ∙ rw (le-leb cap (head + len) (omega arith)) refl
+
+  pub tail-before : len < cap - head → head + len ≡ cond (leb cap (head + len)) (head + len - cap) (head + len)
+  tail-before h = rw (lt-leb cap (head + len) (omega arith)) refl
+
 -- what was written, as an equation of the buffer
 is-written : (b s b′ : List ℕ) (q : Ring) → Kept b q → q .len + length s ≤ length b
     → around b′ (q .head) ≡ paste (around b (q .head)) (q .len) s (length s) → b′ ≡ written b q s
@@ -104,33 +116,52 @@ is-written b s b′ q w p e =
     rw (← e, ← m) (sym (undo b′ (q .head) (omega arith)))
 
 module _ (b s : List ℕ) (q : Ring) (w : Kept b q) (p : length s ≤ length b - q .len) where
-  pub write-past : (b′ : List ℕ) → length b ≤ q .head + q .len → b′ ≡ copied b (q .head + q .len - length b) s → b′ ≡ written b q s
-  write-past b′ h e =
+  write-past : (b′ : List ℕ) → length b ≤ q .head + q .len → b′ ≡ paste b (q .head + q .len - length b) s (length s) → b′ ≡ written b q s
+  write-past b′ h c =
       let wh = w .head in
       let wl = w .len in
       let t : ℕ = q .head + q .len - length b in
-      let c = e ∙ copied-all b s t (omega arith) in
       is-written b s b′ q w (omega arith) (rw c (before b s (q .head) (q .len) t (q .head - (t + length s)) (omega arith) wh (omega arith)))
 
-  pub write-one : (b′ : List ℕ) → q .head + q .len < length b → length s ≤ length b - (q .head + q .len) → b′ ≡ copied b (q .head + q .len) s → b′ ≡ written b q s
-  write-one b′ g h e =
+  write-one : (b′ : List ℕ) → q .head + q .len + length s ≤ length b → b′ ≡ paste b (q .head + q .len) s (length s) → b′ ≡ written b q s
+  write-one b′ h c =
       let wl = w .len in
-      let c = e ∙ copied-all b s (q .head + q .len) (omega arith) in
-      is-written b s b′ q w (omega arith) (rw c (after b s (q .head) (q .len) (omega arith)))
+      is-written b s b′ q w (omega arith) (rw c (after b s (q .head) (q .len) h))
 
-  pub write-two : (b₁ b₂ : List ℕ) (k : ℕ) → q .head + q .len + k ≡ length b → k < length s → b₁ ≡ copied b (q .head + q .len) (take (k - 0) s)
-      → b₂ ≡ copied b₁ 0 (take (length s - k) (drop k s)) → b₂ ≡ written b q s
+  write-two : (b₁ b₂ : List ℕ) (k : ℕ) → q .head + q .len + k ≡ length b → k < length s → b₁ ≡ paste b (q .head + q .len) s k
+      → b₂ ≡ paste b₁ 0 (take (length s - k) (drop k s)) (length s - k) → b₂ ≡ written b q s
   write-two b₁ b₂ k g h e₁ e₂ =
       let wl = w .len in
-      let s₁ : List ℕ = take (k - 0) s in
+      let s₁ : List ℕ = take k s in
       let s₂ : List ℕ = take (length s - k) (drop k s) in
       let e : s₁ ++ s₂ ≡ s = parts s k in
-      let m₁ : length s₁ ≡ k = length-take-le (k - 0) s (omega arith) ∙ sub-zero k in
+      let m₁ : length s₁ ≡ k = length-take-le k s (omega arith) in
       let m₂ : length s₁ + length s₂ ≡ length s = sym (length-append s₁ s₂) ∙ ap length e in
-      let c₁ : b₁ ≡ paste b (q .head + q .len) s₁ (length s₁) = e₁ ∙ copied-all b s₁ (q .head + q .len) (omega arith) in
-      let l₁ : length b₁ ≡ length b = ap length c₁ ∙ length-paste b (q .head + q .len) s₁ (length s₁) (omega arith) (omega arith) in
-      let c₂ : b₂ ≡ paste b₁ 0 s₂ (length s₂) = e₂ ∙ copied-all b₁ s₂ 0 (omega arith) in
+      let m₃ : length s - k ≡ length s₂ = omega arith in
+      let c₁ : b₁ ≡ paste b (q .head + q .len) s₁ (length s₁) = e₁ ∙ paste-part b s (q .head + q .len) k (omega arith) in
+      let c₂ : b₂ ≡ paste b₁ 0 s₂ (length s₂) = e₂ ∙ ap (paste b₁ 0 s₂) m₃ in
       is-written b s b₂ q w (omega arith) (rw e at (both b s₁ s₂ b₁ b₂ (q .head) (q .len) (omega arith) (omega arith) c₁ c₂))
+
+  -- up to the buffer's end, and then from its start
+  pub write-runs : (b₁ b₂ : List ℕ) (at k : ℕ) → at ≡ cond (leb (length b) (q .head + q .len)) (q .head + q .len - length b) (q .head + q .len)
+      → k ≡ min (length s) (length b - at) → b₁ ≡ paste b at s k → b₂ ≡ paste b₁ 0 (take (length s - k) (drop k s)) (length s - k) → b₂ ≡ written b q s
+  write-runs b₁ b₂ at k a m e₁ e₂ =
+      let wh = w .head in
+      let wl = w .len in
+      ⊎-elim
+      (λ h. let a′ : at ≡ q .head + q .len - length b = a ∙ rw (le-leb (length b) (q .head + q .len) h) refl in
+      write-past b₂ h (all (omega arith) ∙ ap (λ (z : ℕ). paste b z s (length s)) a′))
+      (λ h. let a′ : at ≡ q .head + q .len = a ∙ rw (lt-leb (length b) (q .head + q .len) h) refl in
+      ⊎-elim
+      (λ g. write-one b₂ g (all (omega arith) ∙ ap (λ (z : ℕ). paste b z s (length s)) a′))
+      (λ g. write-two b₁ b₂ k (omega arith) (omega arith) (e₁ ∙ ap (λ (z : ℕ). paste b z s k) a′) e₂)
+      (split (q .head + q .len + length s) (length b)))
+      (split (length b) (q .head + q .len))
+    where
+      all : k ≡ length s → b₂ ≡ paste b at s (length s)
+      all l =
+          let z : length s - k ≡ 0 = omega arith in
+          e₂ ∙ ap (paste b₁ 0 (take (length s - k) (drop k s))) z ∙ sym (paste-zero b₁ 0 (take (length s - k) (drop k s))) ∙ e₁ ∙ ap (paste b at s) l
 
 module _ (b d : List ℕ) (q : Ring) (w : Kept b q) (p : length d ≤ q .len) where
   pub read-one : (d′ : List ℕ) → length d ≤ length b - q .head → d′ ≡ copied d 0 (take (q .head + length d - q .head) (drop (q .head) b)) → d′ ≡ take (length d) (held b q)

@@ -3,11 +3,11 @@ use mathlib.Core.Path.{_≡_, refl, sym, _∙_}
 use mathlib.Core.Bool.{Bool, true, false, cond}
 use mathlib.Core.Logic.{⊎-elim}
 use mathlib.Core.List.{List, _++_, append-assoc}
-use Prim.Native.Nat.{ℕ, _+_, _-_, _≤_, _<_, min}
+use Prim.Native.Nat.{ℕ, _+_, _-_, _≤_, _<_}
 use native.Mathlib.Nat.{add-assoc, sub-zero, sub-add-eq, add-zero}
 use native.Mathlib.Omega.{arith}
 use lib.Dec.{leb}
-use lib.ListN.{length, take, drop, getD, length-take, length-drop, List·getD-append, List·getD-eq-default}
+use lib.ListN.{length, take, drop, getD, length-take, length-drop, List·getD-append}
 use lib.Seq.{paste, drop-drop, length-take-le, getD-take, getD-drop, getD-append-add}
 use borrow.Author.Tests.{le-leb, lt-leb, leb-true, leb-false}
 use Rattle.queue.specs.declared.Ring.{Ring}
@@ -131,28 +131,15 @@ off-off cap q n m p =
 getD-past : (x y : List ℕ) (i j : ℕ) → i ≡ length x + j → getD (x ++ y) i 0 ≡ getD y j 0
 getD-past x y i j e = rw e (getD-append-add x y j 0)
 
-module _ (b : List ℕ) (q : Ring) (i : ℕ) where
-  pub byte-none : q .len ≤ i → 0 ≡ getD (held b q) i 0
-  unfolding held
-  byte-none p = let l = length-take (q .len) (around b (q .head)) in let k : length (take (q .len) (around b (q .head))) ≤ i = omega arith in sym (List·getD-eq-default (take (q .len) (around b (q .head))) 0 k)
+module _ (b : List ℕ) (q : Ring) (i : ℕ) (p : i < q .len) where
+  pub byte-first : i < length b - q .head → getD b (q .head + i) 0 ≡ getD (held b q) i 0
+  unfolding held around
+  byte-first r =
+      let k : i < length (drop (q .head) b) = omega (arith, length-drop (q .head) b) in
+      sym (getD-take (q .len) (drop (q .head) b ++ take (q .head) b) i 0 p ∙ List·getD-append (drop (q .head) b) (take (q .head) b) 0 i k ∙ getD-drop (q .head) b i 0)
 
-  module _ (p : i < q .len) where
-    pub byte-first : i < length b - q .head → getD b (q .head + i) 0 ≡ getD (held b q) i 0
-    unfolding held around
-    byte-first r =
-        let k : i < length (drop (q .head) b) = omega (arith, length-drop (q .head) b) in
-        sym (getD-take (q .len) (drop (q .head) b ++ take (q .head) b) i 0 p ∙ List·getD-append (drop (q .head) b) (take (q .head) b) 0 i k ∙ getD-drop (q .head) b i 0)
-
-    past : (j : ℕ) → i ≡ length b - q .head + j → getD (take (q .head) b) j 0 ≡ getD (held b q) i 0
-    unfolding held around
-    past j e =
-        sym (getD-take (q .len) (drop (q .head) b ++ take (q .head) b) i 0 p ∙ getD-past (drop (q .head) b) (take (q .head) b) i j (omega (arith, length-drop (q .head) b)))
-
-    pub byte-past : (j : ℕ) → i ≡ length b - q .head + j → j < q .head → getD b j 0 ≡ getD (held b q) i 0
-    byte-past j e r = sym (getD-take (q .head) b j 0 r) ∙ past j e
-
-    pub byte-beyond : (j : ℕ) → i ≡ length b - q .head + j → min (q .head) (length b) ≤ j → 0 ≡ getD (held b q) i 0
-    byte-beyond j e r =
-        let l = length-take (q .head) b in
-        let k : length (take (q .head) b) ≤ j = omega arith in
-        sym (List·getD-eq-default (take (q .head) b) 0 k) ∙ past j e
+  pub byte-past : (j : ℕ) → i ≡ length b - q .head + j → j < q .head → getD b j 0 ≡ getD (held b q) i 0
+  unfolding held around
+  byte-past j e r =
+      sym (getD-take (q .head) b j 0 r)
+      ∙ sym (getD-take (q .len) (drop (q .head) b ++ take (q .head) b) i 0 p ∙ getD-past (drop (q .head) b) (take (q .head) b) i j (omega (arith, length-drop (q .head) b)))

@@ -1,9 +1,11 @@
 // A queue of bytes in a lent buffer, as a ring; and the one loop that copies.
 ghost use mathlib.Core.Path.{_≡_};
+ghost use mathlib.Core.Bool.{cond};
 ghost use Prim.Native.Nat.{_+_, _-_, _≤_, _<_, min};
-ghost use lib.ListN.{length, take, getD, replicate};
+ghost use lib.Dec.{leb};
+ghost use lib.ListN.{length, take, drop, getD, replicate};
 ghost use lib.Seq.{paste};
-ghost use Rattle.queue.specs.Ring.{copied, held, Kept, kept, room, written, pushed, off, place, popped};
+ghost use Rattle.queue.specs.Ring.{copied, held, Kept, kept, room, written, pushed, off, place, popped, sixHeld, sixAt};
 
 pub struct Ring {
     pub head: usize,
@@ -23,16 +25,24 @@ fn clamped(size: usize, at: usize, n: usize) -> usize
     size - at
 }
 
-// Copies src into dst from index at on, as much as there is place for.
-pub fn copy_at(dst: &mut [u8], at: usize, src: &[u8])
-    ensures { λ _. ⌜ now (dst .exit) ≡ copied (now (dst .entry)) at (now (src .entry)) ⌝ }
+// Copies the first n bytes of src into dst from index at on.
+fn copy_run(dst: &mut [u8], at: usize, src: &[u8], n: usize)
+    requires { ⌜ (n ≤ length (now dst) - at) × (n ≤ length (now src)) ⌝ }
+    ensures { λ _. ⌜ now (dst .exit) ≡ paste (now (dst .entry)) at (now (src .entry)) n ⌝ }
 {
-    let n = clamped(dst.len(), at, src.len());
     let mut i = 0;
     while i < n {
         dst[at + i] = src[i];
         i += 1;
     }
+}
+
+// Copies src into dst from index at on, as much as there is place for.
+pub fn copy_at(dst: &mut [u8], at: usize, src: &[u8])
+    ensures { λ _. ⌜ now (dst .exit) ≡ copied (now (dst .entry)) at (now (src .entry)) ⌝ }
+{
+    let n = clamped(dst.len(), at, src.len());
+    copy_run(dst, at, src, n);
 }
 
 // Writes v to n bytes of dst from index at on, as many as there is place for.
@@ -65,25 +75,29 @@ fn has_room(cap: usize, q: Ring, n: usize) -> bool
     n <= cap - q.len
 }
 
-// Writes src behind what the ring holds, in at most two runs.
+// The index behind what the ring holds.
+fn tail_of(cap: usize, q: Ring) -> usize
+    requires { ⌜ (q .head ≤ cap) × (q .len ≤ cap) ⌝ }
+    ensures { λ r. ⌜ r ≡ cond (leb cap (q .head + q .len)) (q .head + q .len - cap) (q .head + q .len) ⌝ }
+{
+    let first = cap - q.head;
+    if first <= q.len {
+        return q.len - first;
+    }
+    q.head + q.len
+}
+
+// Writes src behind what the ring holds, up to the buffer's end and then from its start.
 fn write(buf: &mut [u8], q: Ring, src: &[u8])
     requires { ⌜ Kept (now buf) q ⌝ }
     requires { ⌜ length (now src) ≤ length (now buf) - q .len ⌝ }
     ensures { λ _. ⌜ now (buf .exit) ≡ written (now (buf .entry)) q (now (src .entry)) ⌝ }
 {
     let cap = buf.len();
-    let end = q.head + q.len;
-    if cap <= end {
-        copy_at(buf, end - cap, src);
-        return;
-    }
-    let first = cap - end;
-    if src.len() <= first {
-        copy_at(buf, end, src);
-        return;
-    }
-    copy_at(buf, end, &src[0..first]);
-    copy_at(buf, 0, &src[first..]);
+    let at = tail_of(cap, q);
+    let first = clamped(cap, at, src.len());
+    copy_run(buf, at, src, first);
+    copy_run(buf, 0, &src[first..], src.len() - first);
 }
 
 // Puts src behind what the ring holds, if it fits.
@@ -165,22 +179,78 @@ pub fn pop_into(buf: &[u8], q: Ring, dst: &mut [u8], at: usize, n: usize) -> Rin
     off_by(buf.len(), q, n)
 }
 
-// Byte i of what the ring holds; 0 if there is none.
-pub fn byte_at(buf: &[u8], q: Ring, i: usize) -> u8
+// Byte i of what the ring holds.
+fn byte_at(buf: &[u8], q: Ring, i: usize) -> u8
+    requires { ⌜ Kept (now buf) q ⌝ }
+    requires { ⌜ i < q .len ⌝ }
     ensures { λ r. ⌜ r ≡ getD (held (now (buf .entry)) q) i 0 ⌝ }
 {
-    if q.len <= i {
-        return 0;
-    }
-    let cap = buf.len();
-    let first = clamped(cap, q.head, cap);
+    let first = buf.len() - q.head;
     if i < first {
         let at = q.head + i;
         return buf[at];
     }
     let at = i - first;
-    if clamped(cap, 0, q.head) <= at {
-        return 0;
-    }
     buf[at]
+}
+
+fn has_six(cap: usize, q: Ring, i: usize) -> bool
+    ensures { λ r. ⌜ r ≡ sixHeld cap q i ⌝ }
+{
+    if !is_kept(cap, q) {
+        return false;
+    }
+    if q.len < 6 {
+        return false;
+    }
+    i <= q.len - 6
+}
+
+// Six bytes of a buffer from index at on.
+fn six_of(buf: &[u8], at: usize) -> [u8; 6]
+    requires { ⌜ at + 6 ≤ length (now buf) ⌝ }
+    ensures { λ r. ⌜ r ≡ take 6 (drop at (now (buf .entry))) ⌝ }
+{
+    [
+        buf[at],
+        buf[at + 1],
+        buf[at + 2],
+        buf[at + 3],
+        buf[at + 4],
+        buf[at + 5],
+    ]
+}
+
+// Six bytes of what the ring holds, of which each is looked for by itself.
+fn six_apart(buf: &[u8], q: Ring, i: usize) -> [u8; 6]
+    requires { ⌜ Kept (now buf) q ⌝ }
+    requires { ⌜ i + 6 ≤ q .len ⌝ }
+    ensures { λ r. ⌜ r ≡ take 6 (drop i (held (now (buf .entry)) q)) ⌝ }
+{
+    [
+        byte_at(buf, q, i),
+        byte_at(buf, q, i + 1),
+        byte_at(buf, q, i + 2),
+        byte_at(buf, q, i + 3),
+        byte_at(buf, q, i + 4),
+        byte_at(buf, q, i + 5),
+    ]
+}
+
+// Six bytes of what the ring holds from place i on; zeros if there are none. Asks once where the ring wraps.
+pub fn six_at(buf: &[u8], q: Ring, i: usize) -> [u8; 6]
+    ensures { λ r. ⌜ r ≡ sixAt (now (buf .entry)) q i ⌝ }
+{
+    let cap = buf.len();
+    if !has_six(cap, q, i) {
+        return [0; 6];
+    }
+    let first = cap - q.head;
+    if first <= i {
+        return six_of(buf, i - first);
+    }
+    if first < i + 6 {
+        return six_apart(buf, q, i);
+    }
+    six_of(buf, q.head + i)
 }

@@ -112,7 +112,7 @@ module _ (cap : ℕ) where
     header-by : (b : Bool) (at n w : ℕ) (k : Kept) → at ≤ length tp → Fine cap (Head n w) k → ltb (length tp - at) (6 - n) ≡ b
         → Turned cap (walkAt at (Head n w) k) tp m
         (cond b (stops (at + (length tp - at)) (Head (n + (length tp - at)) (number w (take (length tp - at) (drop at tp)))) k Nothing)
-        (wholeOf (at + (6 - n)) (headerIn (number w (take (6 - n) (drop at tp)))) k)) m
+        (wholeOf (at + (6 - n)) (headerIn (number w (take (6 - n) (drop at tp)))) k cap)) m
     unfolding Turned pullOf shown
     header-by true at n w k l f q =
         let r = length tp - at in
@@ -146,7 +146,7 @@ module _ (cap : ℕ) where
         some-heads hs (d ∷ ds) bs at j l p e = heads-whole cap (heldOf k m) m hs d ds bs at j (omega arith) (omega arith)
 
     pub header-turned : (w : Walk) (n x : ℕ) → Sound cap (length tp) w → w .phase ≡ Head n x
-        → Turned cap w tp m (headerTurn tp (w .at) n x (w .kept)) m
+        → Turned cap w tp m (headerTurn tp (w .at) n x (w .kept) cap) m
     unfolding headerTurn
     header-turned w n x s q =
         let v : walkAt (w .at) (Head n x) (w .kept) ≡ w = ap (λ (p : Phase). walkAt (w .at) p (w .kept)) (sym q) in

@@ -20,16 +20,16 @@ use Rattle.receiver.specs.declared.walk.Phase.{Phase}
 use Rattle.receiver.specs.declared.walk.Phase.the-variants.{Body, Head, Judged, Lost}
 use Rattle.receiver.specs.declared.walk.Walk.{Walk}
 use Rattle.receiver.specs.Call.{Gives, Said, gone, holds, leave, lowly, plainly, saidOf, says, startly, stepped, unchanged, walkTo}
-use Rattle.receiver.specs.Forecast.{dropped, start}
+use Rattle.receiver.specs.Forecast.{dropped}
 use Rattle.receiver.specs.Frame.{Frame, lost, step}
 use Rattle.receiver.specs.Join.{Held, free}
 use Rattle.receiver.specs.Low.{wire}
-use Rattle.receiver.specs.Outset.{setOut}
-use Rattle.receiver.specs.Pull.{Met, Pulled, dry, found, meet, pull, reads, upto}
+use Rattle.receiver.specs.Outset.{loseOf, setOut, uponOf}
+use Rattle.receiver.specs.Pull.{Met, Pulled, dry, found, meet, reads, upto}
 use Rattle.receiver.specs.State.{Able, Fine, Roomy, Settled, Sound, Staged, frameOf, heldOf, keeps, pullOf, todoOf}
-use Rattle.receiver.specs.Steps.{stepOf, tellOf}
+use Rattle.receiver.specs.Steps.{setly, stepOf, tellOf}
 use Rattle.receiver.specs.Turns.{Gained, shown}
-use Rattle.receiver.proofs.SettingOut.{roomy}
+use Rattle.receiver.proofs.SettingOut.{roomy, upon-fine}
 use Rattle.receiver.specs.declared.Find.the-variants as F
 use Rattle.receiver.specs.declared.low.Lows.the-variants as L
 use Rattle.receiver.specs.declared.walk.Gain.the-variants as G
@@ -48,18 +48,12 @@ module _ (cap : ℕ) where
       upto-none (meet wire cap s m (step wire f b .1)) (step wire f b .0) (suc at) (λ s′ m′. reads wire cap bs (step wire f b .0) (suc at) s′ m′)
       (λ s′ m′ q. reads-none bs (step wire f b .0) (suc at) s′ m′ q) e
 
-  pull-none : (f : Frame wire) (at : ℕ) (x : Met wire) (bs : List ℕ) → pull wire cap f at x bs .find ≡ none → pull wire cap f at x bs .todo ≡ []
-  pull-none f at x bs e = upto-none x f at (λ s m. reads wire cap bs f at s m) (λ s m q. reads-none bs f at s m q) e
-
   pub pullOf-none : (w : Walk) (tp m : List ℕ) → pullOf cap w tp m .find ≡ none → pullOf cap w tp m .todo ≡ []
   unfolding pullOf
-  pullOf-none w tp m e = pull-none (frameOf (w .phase)) (w .at) (meet wire cap (heldOf (w .kept) m) m (todoOf (w .phase))) (drop (w .at) tp) e
-
-  pub setOut-none : (w : Walk) (n : ℕ) (tp m : List ℕ) → setOut cap w n tp m .find ≡ none → setOut cap w n tp m .todo ≡ []
-  unfolding setOut
-  setOut-none w n tp m e =
-      let t = start wire (frameOf (w .phase)) n (drop (w .at) tp) in
-      pull-none (t .frame) (w .at + t .past) (meet wire cap (heldOf (w .kept) m) m (t .told)) (drop (w .at + t .past) tp) e
+  pullOf-none w tp m e =
+      let f = frameOf (w .phase) in
+      let bs = drop (w .at) tp in
+      upto-none (meet wire cap (heldOf (w .kept) m) m (todoOf (w .phase))) f (w .at) (λ s m. reads wire cap bs f (w .at) s m) (λ s m q. reads-none bs f (w .at) s m q) e
 
 settled-of : (cap : ℕ) (p : Phase) (k : Kept) → Fine cap p k → todoOf p ≡ [] → Settled p
 settled-of cap Lost k f e = omega arith
@@ -89,6 +83,22 @@ module _ (r : Receiver) (tp m : List ℕ) (size : 16 ≤ r .size) (whole : lengt
   packet-told : (c n : ℕ) → n ≤ length m → saidOf (F.Ordinary c n) tp m ≡ record { find = F.Ordinary c (length (take n m)); number = none; bytes = take n m }
   packet-told c n l = ap (λ (k : ℕ). record { find = F.Ordinary c k; number = none; bytes = take n m }) (sym (length-take-le n m l))
 
+  notice-by : (n : ℕ) (w : Walk) (p : Pulled wire) → shown (record { walk = w; gain = G.Notice n }) m ≡ p → Sound (length m) (length tp) w
+      → Gives (plainly r p) (stepOf r Plain (w .at) (w .phase) (w .kept) (F.Notice n)) tp m
+  unfolding stepped shown
+  notice-by n w p e s = record {
+    same = shows Plain (w .at) w (says (F.Notice n) (some n)) s ∙ ap (plainly r) e;
+    able = record { size = size; walk = rw (full, whole) at s; stage = omega arith };
+  }
+
+  -- 12 and 13 leave reading at the offset
+  pub lose-gives : (at n i : ℕ) → at + n ≤ length tp → shown (loseOf (at + n) (length tp) i) m ≡ setOut (length m) (walkTo r at) n tp m
+      → Gives (setly r at n tp m) (stepOf r Plain (at + n) (uponOf (at + n) (length tp)) Empty (F.Notice i)) tp m
+  unfolding setOut
+  lose-gives at n i b e =
+      notice-by i (loseOf (at + n) (length tp) i .walk) (setOut (length m) (walkTo r at) n tp m) e
+      (record { at = b; phase = upon-fine (length m) (at + n) (length tp) Empty (omega arith) })
+
   tell-by : (g : Gain) (w : Walk) (p : Pulled wire) → shown (record { walk = w; gain = g }) m ≡ p → Sound (length m) (length tp) w → Gained (length m) g
       → (p .find ≡ none → p .todo ≡ []) → Gives (plainly r p) (tellOf g r w) tp m
   unfolding stepped shown
@@ -102,10 +112,7 @@ module _ (r : Receiver) (tp m : List ℕ) (size : 16 ≤ r .size) (whole : lengt
           stage = settled-of (length m) (w .phase) (w .kept) (s .phase) (ap (λ (p : Pulled wire). p .todo) e ∙ q (sym (ap (λ (p : Pulled wire). p .find) e)));
         };
       }
-  tell-by (G.Notice n) w p e s d q = record {
-    same = shows Plain (w .at) w (says (F.Notice n) (some n)) s ∙ ap (plainly r) e;
-    able = record { size = size; walk = rw (full, whole) at s; stage = omega arith };
-  }
+  tell-by (G.Notice n) w p e s d q = notice-by n w p e s
   tell-by (G.Packet c n) w p e s d q = record {
     same = shows Plain (w .at) w (saidOf (F.Ordinary c n) tp m) s
         ∙ ap (λ (a : Said). leave r Plain (w .at) (frameOf (w .phase)) (todoOf (w .phase)) (heldOf (w .kept) m) (holds (heldOf (w .kept) m)) a m) (packet-told c n (omega arith))

@@ -1,5 +1,5 @@
 -- Numbers of bytes, and stretches of a slice. Assumes nothing.
-use mathlib.Core.Path.{ap, refl, sym, _∙_, _≡_}
+use mathlib.Core.Path.{ap, refl, subst, sym, _∙_, _≡_}
 use mathlib.Core.Option.{Option, none, some}
 use mathlib.Core.List.{List, [], _++_, _∷_}
 use Prim.Native.Nat.{min, suc, ℕ, _*_, _+_, _-_, _<_, _^_, _≤_}
@@ -20,13 +20,13 @@ use Rattle.receiver.specs.declared.walk.Phase.the-variants.{Lost}
 use Rattle.receiver.specs.Turns.{Stored, openedOf, stops, wholeOf}
 use Rattle.wire.specs.declared.Read.the-variants as R
 
-pub beyond-read : (at : ℕ) (k : Kept) (o : Option Header) → readOf o ≡ R.Beyond → stops at Lost Empty (Notice 12) ≡ wholeOf at o k
-beyond-read at k none e = refl
-beyond-read at k (some h) e = cc
+pub beyond-read : (at : ℕ) (k : Kept) (cap : ℕ) (o : Option Header) → readOf o ≡ R.Beyond → stops at Lost Empty (Notice 12) ≡ wholeOf at o k cap
+beyond-read at k cap none e = refl
+beyond-read at k cap (some h) e = cc
 
-pub whole-read : (at : ℕ) (k : Kept) (h : Header) (o : Option Header) → readOf o ≡ R.Whole h → openedOf at h k ≡ wholeOf at o k
-whole-read at k h none e = cc
-whole-read at k h (some x) e = let q : h ≡ x = cc in ap (λ (y : Header). openedOf at y k) q
+pub whole-read : (at : ℕ) (k : Kept) (cap : ℕ) (h : Header) (o : Option Header) → readOf o ≡ R.Whole h → openedOf at h k cap ≡ wholeOf at o k cap
+whole-read at k cap h none e = cc
+whole-read at k cap h (some x) e = let q : h ≡ x = cc in ap (λ (y : Header). openedOf at y k cap) q
 
 -- the number of some bytes
 
@@ -53,6 +53,38 @@ gather-off tp at n w i z h g e =
     empty : (l : List ℕ) → length l ≡ 0 → l ≡ []
     empty [] e = refl
     empty (x ∷ xs) e = absurd (omega arith)
+
+abbrev six : List ℕ → List ℕ
+six h = getD h 0 0 ∷ getD h 1 0 ∷ getD h 2 0 ∷ getD h 3 0 ∷ getD h 4 0 ∷ getD h 5 0 ∷ []
+
+all-six : (h : List ℕ) → length h ≡ 6 → six h ≡ h
+all-six [] e = absurd (omega arith)
+all-six (a ∷ []) e = absurd (omega arith)
+all-six (a ∷ b ∷ []) e = absurd (omega arith)
+all-six (a ∷ b ∷ c ∷ []) e = absurd (omega arith)
+all-six (a ∷ b ∷ c ∷ d ∷ []) e = absurd (omega arith)
+all-six (a ∷ b ∷ c ∷ d ∷ f ∷ []) e = absurd (omega arith)
+all-six (a ∷ b ∷ c ∷ d ∷ f ∷ g ∷ []) e = refl
+all-six (a ∷ b ∷ c ∷ d ∷ f ∷ g ∷ x ∷ xs) e = absurd (omega arith)
+
+pub six-of : (tp : List ℕ) (at : ℕ) → at + 6 ≤ length tp → number 0 (six (take (at + 6 - at) (drop at tp))) ≡ number 0 (take 6 (drop at tp))
+six-of tp at l =
+    let q : at + 6 - at ≡ 6 = omega arith in
+    rw q (ap (number 0) (all-six (take 6 (drop at tp)) (length-take-le 6 (drop at tp) (omega (arith, length-drop at tp)))))
+
+pub none-read : (tp : List ℕ) (at have word : ℕ) → have ≡ 0 → word < 256 ^ have → number 0 (take 6 (drop at tp)) ≡ number word (take (6 - have) (drop at tp))
+none-read tp at have word e l =
+    let z : word < 256 ^ 0 = subst (λ (n : ℕ). word < 256 ^ n) e l in
+    let p : 6 ≡ 6 - have = omega arith in
+    let q : 0 ≡ word = omega arith in
+    ap (λ (n : ℕ). number 0 (take n (drop at tp))) p ∙ ap (λ (w : ℕ). number w (take (6 - have) (drop at tp))) q
+
+pub three-of : (tp : List ℕ) → 4 ≤ length tp → number 0 (getD tp 1 0 ∷ getD tp 2 0 ∷ getD tp 3 0 ∷ []) ≡ number 0 (take 3 (drop 1 tp))
+three-of [] l = absurd (omega arith)
+three-of (a ∷ []) l = absurd (omega arith)
+three-of (a ∷ b ∷ []) l = absurd (omega arith)
+three-of (a ∷ b ∷ c ∷ []) l = absurd (omega arith)
+three-of (a ∷ b ∷ c ∷ d ∷ tp) l = refl
 
 pub stored-is : (tp : List ℕ) (at n c l : ℕ) (k : Kept) (m m′ : List ℕ) → k ≡ Of c l → at + n ≤ length tp → l + n ≤ length m
     → m′ ≡ copied m l (take (at + n - at) (drop at tp)) → Stored tp at n k m (Of c (l + n)) m′

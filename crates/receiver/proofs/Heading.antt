@@ -2,10 +2,8 @@
 use mathlib.Core.Path.{ap, refl, sym, _∙_, _≡_}
 use mathlib.Core.List.{List, [], append-assoc, append-nil, _++_, _∷_}
 use Prim.Native.Nat.{suc, zero, ℕ, _%_, _*_, _+_, _-_, _/_, _<_, _^_, _≤_}
-use native.Mathlib.Decide.{decLe}
 use native.Mathlib.Omega.{arith}
-use lib.ListN.{List·getD-eq-default, drop, getD, length, length-append, length-drop, length-take, take}
-use lib.Seq.{getD-drop, getD-take, length-take-le}
+use lib.ListN.{getD, length, length-append}
 use Rattle.digits.specs.Digits.{digits, number}
 use Rattle.wire.specs.Reading.{headerOf}
 use Rattle.receiver.specs.Frame.{Out, head, step, whole}
@@ -80,17 +78,3 @@ module _ (cap : ℕ) (s : Held wire) (m : List ℕ) where
       one wire cap (headed hs) d (x ∷ ds ++ bs) at s m (headed (hs ++ d ∷ []), []) (headed-step hs d (omega arith))
       ∙ heads-whole (hs ++ d ∷ []) x ds bs (suc at) j (omega (arith, length-append hs (d ∷ []))) (omega arith)
       ∙ ap (λ (l : List ℕ). on-with (whole wire (headerOf l)) j bs) (append-assoc hs (d ∷ []) (x ∷ ds))
-
--- three bytes make no more than 24 bits
-pub word-small : (tp : List ℕ) (n : ℕ) → Bytes tp → 4 ≤ length tp → n ≡ number 0 (take 3 (drop 1 tp)) → n < 4294967296
-word-small tp n y l e =
-    let v : length (take 3 (drop 1 tp)) ≡ 3 = length-take-le 3 (drop 1 tp) (omega (arith, length-drop 1 tp)) in
-    let z = number-small 0 3 0 (take 3 (drop 1 tp)) (taken 3 (drop 1 tp) (λ i. rw (getD-drop 1 tp i 0) (y (1 + i)))) (omega arith) (omega arith) in
-    omega arith
-  where
-    taken : (k : ℕ) (l : List ℕ) → Bytes l → Bytes (take k l)
-    taken k l y i = go (decLe k i)
-      where
-        go : Dec (k ≤ i) → getD (take k l) i 0 < 256
-        go (yes h) = let e : getD (take k l) i 0 ≡ 0 = List·getD-eq-default (take k l) 0 {n = i} (omega (arith, length-take k l)) in omega arith
-        go (no h) = rw (getD-take k l i 0 (omega arith)) (y i)

@@ -8,6 +8,8 @@ pub mod SettingOut
 pub mod Walking
 pub mod Calling
 pub mod Parting
+pub mod TakingUp
+pub mod Answering
 pub mod Pinned
 pub mod Pulling
 pub mod Rest
@@ -25,3 +27,5 @@ pub mod Tracing
 pub mod Handing
 pub mod OnePacket
 pub mod HandedOut
+pub mod LowRead
+pub mod HandedLow

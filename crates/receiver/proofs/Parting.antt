@@ -1,106 +1,160 @@
--- A call in its parts: which clause of its definition a test of the code chooses. Assumes nothing.
-use mathlib.Core.Path.{subst, sym, _≡_}
-use mathlib.Core.Bool.{Bool, false, true}
-use mathlib.Core.Option.{Option, none, some}
+-- Courses: where the offset and the low-latency part lead, whatever room is lent. Assumes nothing.
+use mathlib.Core.Path.{ap, refl, subst, sym, _∙_, _≡_}
+use mathlib.Core.Bool.{Bool, cond, false, true}
 use mathlib.Core.List.{List}
-use Prim.Native.Nat.{ℕ, _%_, _+_, _-_, _/_, _<_, _≤_}
+use Prim.Native.Nat.{suc, ℕ, _+_, _-_, _<_, _≤_}
 use native.Mathlib.Omega.{arith}
-use lib.Dec.{leb}
-use lib.ListN.{drop, getD, length, length-drop, take}
-use borrow.Author.Tests.{eq-eqb, le-leb, le-ltb, lt-leb, lt-ltb, ne-eqb}
-use Rattle.digits.specs.Digits.{number}
-use Rattle.wire.specs.Reading.{tpNumberIn, tpWordOf}
+use lib.Dec.{eqb, leb, ltb}
+use lib.ListN.{drop, length, length-drop}
+use borrow.Author.Tests.{le-leb, le-ltb, leb-false, leb-true, lt-leb, lt-ltb, ltb-false, ltb-true}
+use Rattle.receiver.specs.declared.Find.{Find}
 use Rattle.receiver.specs.declared.Receiver.{Receiver}
-use Rattle.receiver.specs.declared.Stage.{Stage}
-use Rattle.receiver.specs.declared.Step.{Step}
+use Rattle.receiver.specs.declared.Stage.the-variants.{Due, Low, Plain}
 use Rattle.receiver.specs.declared.low.Lows.{Lows}
-use Rattle.receiver.specs.Call.{Gives, begun, begunly, callOf, dueOf, freshly, gone, lowly, plainly, staged, startly, unchanged, walkTo}
-use Rattle.receiver.specs.Forecast.{dropped, outset, start}
+use Rattle.receiver.specs.declared.stages.Course.{Course}
+use Rattle.receiver.specs.declared.outset.Place.{Place}
+use Rattle.receiver.specs.declared.outset.Place.the-variants.{Behind, Outside}
+use Rattle.receiver.specs.declared.walk.Kept.the-variants.{Empty}
+use Rattle.receiver.specs.declared.walk.Phase.{Phase}
+use Rattle.receiver.specs.declared.walk.Phase.the-variants.{Lost}
+use Rattle.receiver.specs.declared.walk.Walk.{Walk}
+use Rattle.receiver.specs.Call.{Gave, Gives, dueOf, lowly, plainly, startly, walkTo}
+use Rattle.receiver.specs.Forecast.{Start, dropped, outset, start}
 use Rattle.receiver.specs.Low.{wire}
 use Rattle.receiver.specs.Lows.{lowsOf}
-use Rattle.receiver.specs.Outset.{setOut}
-use Rattle.receiver.specs.State.{frameOf, from}
-use Rattle.wire.specs.declared.TpWord.the-variants as W
+use Rattle.receiver.specs.Outset.{ReadsOn, SetsOut, placeOf, setOut, uponOf}
+use Rattle.receiver.specs.State.{Sound, frameOf}
+use Rattle.receiver.specs.Steps.{Leads, Lent, partly, setly, stepOf}
+use Rattle.receiver.proofs.Calling.{drop-gives, lose-gives, low-gives}
+use Rattle.receiver.proofs.Walking.{low-in}
 use Rattle.receiver.specs.declared.Find.the-variants as F
+use Rattle.receiver.specs.declared.low.Lows.the-variants as L
+use Rattle.receiver.specs.declared.outset.Start as Outset
+use Rattle.receiver.specs.declared.outset.Start.the-variants as O
+use Rattle.receiver.specs.declared.stages.Course.the-variants as C
 
--- a call in its parts
+-- a course leads wherever is the same
 
-module _ (r : Receiver) (o at : ℕ) (tp m : List ℕ) (q : Step) (m′ : List ℕ) (b : 4 ≤ at) (d : at ≤ length tp) where
-  abbrev Due-gives : ℕ → Type 0
-  Due-gives n = Gives (plainly r (from (length m) (start wire (frameOf (r .walk .phase)) n (drop at tp)) (walkTo r at) tp m)) q tp m′
+pub leads-by : (g h : List ℕ → Gave) (r : Receiver) (tp : List ℕ) (q : Course) → ((m : List ℕ) → h m ≡ g m) → Leads h r tp q → Leads g r tp q
+unfolding Leads
+leads-by g h r tp (C.Gives s) e l = λ m f. subst (λ (x : Gave). Gives x s tp m) (e m) (l m f)
+leads-by g h r tp (C.Reads w) e l = record { same = λ m f. l .same m f ∙ e m; sound = l .sound }
 
-  pub due-all : o ≡ 2047 → Gives (plainly r (setOut (length m) (walkTo r at) (length tp - at) tp m)) q tp m′ → Gives (dueOf r o at tp m) q tp m′
-  unfolding dueOf outset setOut
-  due-all e g = rw (eq-eqb o 2047 e) (subst Due-gives (sym (length-drop at tp)) g)
+-- the courses
 
-  pub due-past : (o ≡ 2047 → ⊥) → length tp ≤ o + 4 → Gives (startly r at (dropped wire 10 (drop at tp)) tp m) q tp m′ → Gives (dueOf r o at tp m) q tp m′
-  unfolding dueOf outset
-  due-past e l g =
-      let x : at - 4 + length (drop at tp) ≤ o = omega (arith, length-drop at tp) in
-      rw (ne-eqb o 2047 e, le-leb (at - 4 + length (drop at tp)) o x) g
+drop-leads : (r : Receiver) (at : ℕ) (tp : List ℕ) (n : ℕ) → 16 ≤ r .size → length tp ≡ r .size → at ≤ length tp
+    → Leads (startly r at (dropped wire (suc n) (drop at tp)) tp) r tp (C.Gives (stepOf r Plain (length tp) Lost Empty (F.Notice (suc n))))
+unfolding Leads
+drop-leads r at tp n size whole b = λ m f. drop-gives r tp m size whole f n at b
 
-  pub due-before : (o ≡ 2047 → ⊥) → o + 4 < length tp → o + 4 < at → Gives (startly r at (dropped wire 10 (drop at tp)) tp m) q tp m′ → Gives (dueOf r o at tp m) q tp m′
-  unfolding dueOf outset
-  due-before e l h g =
-      let x : o < at - 4 + length (drop at tp) = omega (arith, length-drop at tp) in
-      let y : o < at - 4 = omega arith in
-      rw (ne-eqb o 2047 e, lt-leb (at - 4 + length (drop at tp)) o x, lt-ltb o (at - 4) y) g
+lent-in : (r : Receiver) (at : ℕ) (tp : List ℕ) → Lent r at tp → at ≤ length tp
+lent-in r at tp l = let p = l .walk .at in let q = l .whole in omega arith
 
-  pub due-on : (o ≡ 2047 → ⊥) → o + 4 < length tp → at ≤ o + 4 → Gives (plainly r (setOut (length m) (walkTo r at) (o + 4 - at) tp m)) q tp m′ → Gives (dueOf r o at tp m) q tp m′
-  unfolding dueOf outset setOut
-  due-on e l h g =
-      let x : o < at - 4 + length (drop at tp) = omega (arith, length-drop at tp) in
-      let y : at - 4 ≤ o = omega arith in
-      let z : o + 4 - at ≡ o - (at - 4) = omega arith in
-      rw (ne-eqb o 2047 e, lt-leb (at - 4 + length (drop at tp)) o x, le-ltb o (at - 4) y) (subst Due-gives z g)
+module _ (r : Receiver) (at n : ℕ) (tp : List ℕ) (s : Outset.Start) (l : Lent r at tp) where
+  pub set-reads : (x : Walk) → SetsOut (walkTo r at) n tp s → s ≡ O.Reads x → Leads (setly r at n tp) r tp (C.Reads x)
+  unfolding SetsOut Leads setOut
+  set-reads x g e =
+      let h : ReadsOn (walkTo r at) n tp x = subst (SetsOut (walkTo r at) n tp) e g in
+      record {
+        same = λ m f. ap (plainly r) (h .same m);
+        sound = subst (λ (k : ℕ). Sound (r .limit) k x) (l .whole) (h .sound (r .limit) (subst (λ (k : ℕ). Sound (r .limit) k (walkTo r at)) (sym (l .whole)) (l .walk)));
+      }
 
-pub lowly-is : (r : Receiver) (o at : ℕ) (tp m : List ℕ) (q : Step) (m′ : List ℕ) (l : Lows) → lowsOf tp at ≡ l
-    → Gives (lowly l r o tp m) q tp m′ → Gives (lowly (lowsOf tp at) r o tp m) q tp m′
-lowly-is r o at tp m q m′ l e g = rw e g
+  pub set-loses : (i : ℕ) (there : Phase) → at + n ≤ length tp → there ≡ uponOf (at + n) (length tp) → SetsOut (walkTo r at) n tp s → s ≡ O.Loses i
+      → Leads (setly r at n tp) r tp (C.Gives (stepOf r Plain (at + n) there Empty (F.Notice i)))
+  unfolding SetsOut Leads
+  set-loses i there b u g e = λ m f.
+      subst (λ (p : Phase). Gives (setly r at n tp m) (stepOf r Plain (at + n) p Empty (F.Notice i)) tp m) (sym u)
+      (lose-gives r tp m (l .size) (l .whole) f at n i b (subst (SetsOut (walkTo r at) n tp) e g m))
 
-pub says-small : (o : Option ℕ) (l : Bool) (n : ℕ) → tpWordOf o ≡ W.Says l n → n < 2048
-says-small none l n e = let z : _≡_ {A = ℕ} 0 1 = cc in omega arith
-says-small (some w) l n e = let q : w % 2048 ≡ n = cc in omega arith
+-- behind the low-latency part
 
-module _ (r : Receiver) (tp m : List ℕ) (q : Step) (m′ : List ℕ) where
-  pub begun-low : (l : Bool) (n : ℕ) → l ≡ true → Gives (lowly (lowsOf tp 4) r n tp m) q tp m′ → Gives (begunly l r n tp m) q tp m′
-  begun-low l n e g = subst (λ (l : Bool). Gives (begunly l r n tp m) q tp m′) (sym e) g
+pub behind-in : (o at len n : ℕ) → at ≤ len → placeOf o at len ≡ Behind n → at + n ≤ len
+unfolding placeOf
+behind-in o at len n b e = by (eqb o 2047) (leb len (o + 4)) (ltb (o + 4) at) refl refl e
+  where
+    by : (x y z : Bool) → leb len (o + 4) ≡ y → ltb (o + 4) at ≡ z
+        → cond x (Behind (len - at)) (cond y Outside (cond z Outside (Behind (o + 4 - at)))) ≡ Behind n → at + n ≤ len
+    by true y z h k e = let q : len - at ≡ n = cc in omega arith
+    by false true z h k e = let q : _≡_ {A = ℕ} 0 1 = cc in absurd (omega arith)
+    by false false true h k e = let q : _≡_ {A = ℕ} 0 1 = cc in absurd (omega arith)
+    by false false false h k e = let q : o + 4 - at ≡ n = cc in omega (arith, leb-false len (o + 4) h, ltb-false (o + 4) at k)
 
-  pub begun-due : (l : Bool) (n : ℕ) → l ≡ false → Gives (dueOf r n 4 tp m) q tp m′ → Gives (begunly l r n tp m) q tp m′
-  begun-due l n e g = subst (λ (l : Bool). Gives (begunly l r n tp m) q tp m′) (sym e) g
+module _ (r : Receiver) (o at : ℕ) (tp : List ℕ) (l : Lent r at tp) where
+  abbrev placed : Place → Start wire
+  placed Outside = dropped wire 10 (drop at tp)
+  placed (Behind n) = start wire (frameOf (r .walk .phase)) n (drop at tp)
 
-  pub begun-beyond : (o : Option ℕ) → tpWordOf o ≡ W.Beyond → Gives (gone r 9 m) q tp m′ → Gives (begun o r tp m) q tp m′
-  begun-beyond none e g = g
-  begun-beyond (some w) e g = let z : _≡_ {A = ℕ} 0 1 = cc in absurd (omega arith)
+  outset-at : outset wire (frameOf (r .walk .phase)) o (at - 4) (drop at tp) ≡ placed (placeOf o at (length tp))
+  unfolding outset placeOf
+  outset-at = by (eqb o 2047) (leb (length tp) (o + 4)) (ltb (o + 4) at) refl refl refl
+    where
+      b : 4 ≤ at
+      b = l .payload
 
-  pub begun-says : (o : Option ℕ) (l : Bool) (n : ℕ) → tpWordOf o ≡ W.Says l n → Gives (begunly l r n tp m) q tp m′ → Gives (begun o r tp m) q tp m′
-  begun-says none l n e g = let z : _≡_ {A = ℕ} 0 1 = cc in absurd (omega arith)
-  begun-says (some w) l n e g =
-      let a : l ≡ leb 2048 w = cc in
-      let b : n ≡ w % 2048 = cc in
-      subst (λ (n : ℕ). Gives (begunly (leb 2048 w) r n tp m) q tp m′) b (subst (λ (l : Bool). Gives (begunly l r n tp m) q tp m′) a g)
+      d : at ≤ length tp
+      d = lent-in r at tp l
 
-  pub call-is : (g : Stage) → length m ≡ r .limit → length tp ≡ r .size → r .stage ≡ g → Gives (staged g r tp m) q tp m′ → Gives (callOf r tp m) q tp m′
-  unfolding callOf
-  call-is g f w e h = rw (eq-eqb (length m) (r .limit) f, eq-eqb (length tp) (r .size) w) (subst (λ (z : Stage). Gives (staged z r tp m) q tp m′) (sym e) h)
+      by : (x y z : Bool) → eqb o 2047 ≡ x → leb (length tp) (o + 4) ≡ y → ltb (o + 4) at ≡ z
+          → outset wire (frameOf (r .walk .phase)) o (at - 4) (drop at tp)
+          ≡ placed (cond x (Behind (length tp - at)) (cond y Outside (cond z Outside (Behind (o + 4 - at)))))
+      by true y z e h k = rw e (ap (λ (n : ℕ). start wire (frameOf (r .walk .phase)) n (drop at tp)) (length-drop at tp))
+      by false true z e h k =
+          let v : at - 4 + length (drop at tp) ≤ o = omega (arith, length-drop at tp, leb-true (length tp) (o + 4) h, b, d) in
+          rw (e, le-leb (at - 4 + length (drop at tp)) o v)
+      by false false true e h k =
+          let v : o < at - 4 + length (drop at tp) = omega (arith, length-drop at tp, leb-false (length tp) (o + 4) h, b, d) in
+          let w : o < at - 4 = omega (arith, ltb-true (o + 4) at k) in
+          rw (e, lt-leb (at - 4 + length (drop at tp)) o v, lt-ltb o (at - 4) w)
+      by false false false e h k =
+          let v : o < at - 4 + length (drop at tp) = omega (arith, length-drop at tp, leb-false (length tp) (o + 4) h, b, d) in
+          let w : at - 4 ≤ o = omega (arith, ltb-false (o + 4) at k) in
+          let z : o - (at - 4) ≡ o + 4 - at = omega (arith, b, ltb-false (o + 4) at k) in
+          rw (e, lt-leb (at - 4 + length (drop at tp)) o v, le-ltb o (at - 4) w)
+          (ap (λ (n : ℕ). start wire (frameOf (r .walk .phase)) n (drop at tp)) z)
 
-  pub call-refused : (length m ≡ r .limit → ⊥) → Gives (unchanged r F.Refused 1 m) q tp m′ → Gives (callOf r tp m) q tp m′
-  unfolding callOf
-  call-refused f h = rw (ne-eqb (length m) (r .limit) f) h
+  due-by : (q : Course) (p : Place) → placeOf o at (length tp) ≡ p → Leads (startly r at (placed p) tp) r tp q → Leads (dueOf r o at tp) r tp q
+  unfolding dueOf
+  due-by q p e g =
+      leads-by (dueOf r o at tp) (startly r at (placed p) tp) r tp q (λ m. ap (λ (t : Start wire). startly r at t tp m) (sym (outset-at ∙ ap placed e))) g
 
-  pub call-six : length m ≡ r .limit → (length tp ≡ r .size → ⊥) → Gives (unchanged r (F.Notice 6) 6 m) q tp m′ → Gives (callOf r tp m) q tp m′
-  unfolding callOf
-  call-six f w h = rw (eq-eqb (length m) (r .limit) f, ne-eqb (length tp) (r .size) w) h
+  pub due-outside : placeOf o at (length tp) ≡ Outside → Leads (dueOf r o at tp) r tp (C.Gives (stepOf r Plain (length tp) Lost Empty (F.Notice 10)))
+  due-outside e = due-by _ Outside e (drop-leads r at tp 9 (l .size) (l .whole) (lent-in r at tp l))
 
-  pub fresh-eight : (getD tp 0 0 / 16 ≡ r .stream → ⊥) → Gives (unchanged r (F.Notice 8) 8 m) q tp m′ → Gives (freshly r tp m) q tp m′
-  unfolding freshly
-  fresh-eight f h = rw (ne-eqb (getD tp 0 0 / 16) (r .stream) f) h
+  pub due-behind : (q : Course) (n : ℕ) → placeOf o at (length tp) ≡ Behind n → Leads (setly r at n tp) r tp q → Leads (dueOf r o at tp) r tp q
+  due-behind q n e g = due-by q (Behind n) e g
 
-  pub fresh-seven : getD tp 0 0 / 16 ≡ r .stream → (getD tp 0 0 % 4 ≡ 0 → ⊥) → Gives (gone r 7 m) q tp m′ → Gives (freshly r tp m) q tp m′
-  unfolding freshly
-  fresh-seven f g h = rw (eq-eqb (getD tp 0 0 / 16) (r .stream) f, ne-eqb (getD tp 0 0 % 4) 0 g) h
+-- the low-latency part, if there is one
 
-  pub fresh-on : getD tp 0 0 / 16 ≡ r .stream → getD tp 0 0 % 4 ≡ 0 → Gives (begun (tpNumberIn (number 0 (take 3 (drop 1 tp)))) r tp m) q tp m′
-      → Gives (freshly r tp m) q tp m′
-  unfolding freshly
-  fresh-on f g h = rw (eq-eqb (getD tp 0 0 / 16) (r .stream) f, eq-eqb (getD tp 0 0 % 4) 0 g) h
+module _ (r : Receiver) (low : Bool) (o at : ℕ) (tp : List ℕ) (l : Lent r at tp) where
+  abbrev walked : Lows
+  walked = cond low (lowsOf tp at) (L.End at)
+
+  part-by : (q : Course) (x : Lows) (h : List ℕ → Gave) → walked ≡ x → ((m : List ℕ) → h m ≡ lowly x r o tp m) → Leads h r tp q
+      → Leads (partly low r o at tp) r tp q
+  part-by q x h e s g = leads-by (partly low r o at tp) h r tp q (λ m. s m ∙ ap (λ (x : Lows). lowly x r o tp m) (sym e)) g
+
+  pub part-lent : (i : ℕ) → walked ≡ L.End i → Lent r i tp
+  part-lent i e =
+      let b = low-in low tp at (L.End i) (lent-in r at tp l) e in
+      let p = l .payload in
+      let w = l .whole in
+      record { size = l .size; whole = l .whole; payload = omega arith; walk = record { at = omega arith; phase = l .walk .phase }; settled = l .settled }
+
+  pub part-broken : (i : ℕ) → walked ≡ L.Broken i → Leads (partly low r o at tp) r tp (C.Gives (stepOf r Plain (length tp) Lost Empty (F.Notice 11)))
+  part-broken i e =
+      part-by _ (L.Broken i) (startly r i (dropped wire 11 (drop i tp)) tp) e (λ m. refl)
+      (drop-leads r i tp 10 (l .size) (l .whole) (low-in low tp at (L.Broken i) (lent-in r at tp l) e .1))
+
+  pub part-due : (q : Course) (i : ℕ) → walked ≡ L.End i → Leads (dueOf r o i tp) r tp q → Leads (partly low r o at tp) r tp q
+  part-due q i e g = part-by q (L.End i) (dueOf r o i tp) e (λ m. refl) g
+
+  pub part-gives : (f : Find) (more : Bool) (i : ℕ) → o < 2048 → walked ≡ L.Gives f more i
+      → Leads (partly low r o at tp) r tp (C.Gives (stepOf r (cond more (Low o) (Due o)) i (r .walk .phase) (r .walk .kept) f))
+  unfolding Leads
+  part-gives f more i s e =
+      let b = low-in low tp at (L.Gives f more i) (lent-in r at tp l) e in
+      let p = l .payload in
+      let q = stepOf r (cond more (Low o) (Due o)) i (r .walk .phase) (r .walk .kept) f in
+      part-by (C.Gives q) (L.Gives f more i) (lowly (L.Gives f more i) r o tp) e (λ m. refl)
+      (λ m u. low-gives r tp m (l .size) (l .whole) u o f more i at s (omega arith) (b .1) (l .walk) (l .settled))

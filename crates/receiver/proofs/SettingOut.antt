@@ -9,19 +9,19 @@ use lib.Dec.{eqb, ltb}
 use lib.ListN.{drop, length, length-drop}
 use borrow.Author.Tests.{eq-eqb, ltb-false, ltb-true, ne-eqb}
 use Rattle.receiver.specs.declared.outset.Fore.the-variants.{At, Bad, Off}
-use Rattle.receiver.specs.declared.walk.Answer.{Answer}
+use Rattle.receiver.specs.declared.outset.Start.the-variants.{Loses, Reads}
 use Rattle.receiver.specs.declared.walk.Kept.{Kept}
 use Rattle.receiver.specs.declared.walk.Kept.the-variants.{Empty, Of}
 use Rattle.receiver.specs.declared.walk.Phase.{Phase}
 use Rattle.receiver.specs.declared.walk.Phase.the-variants.{Body, Head, Judged, Lost}
 use Rattle.receiver.specs.declared.walk.Walk.{Walk}
 use Rattle.receiver.specs.Forecast.{Start, agree, between, foretold, inside, judge, off, phase, resume, set-out, start, upon}
-use Rattle.receiver.specs.Frame.{Frame, idle, lose, lost}
+use Rattle.receiver.specs.Frame.{Event, Frame, idle, lose, lost}
 use Rattle.receiver.specs.Low.{wire}
-use Rattle.receiver.specs.Outset.{SetsOut, foreOf, loseOf, seen, setOut, uponOf}
+use Rattle.receiver.specs.Outset.{SetsOut, foreOf, seen, setOut, uponOf}
 use Rattle.receiver.specs.Pull.{meet, pull}
 use Rattle.receiver.specs.State.{Fine, Roomy, Settled, frameOf, from, heldOf, pullOf, todoOf}
-use Rattle.receiver.specs.Turns.{Ends, shown}
+use Rattle.receiver.specs.Turns.{shown}
 use Rattle.receiver.specs.Forecast as F
 
 -- what the forecast decides
@@ -97,58 +97,53 @@ settled-todo (Judged h) s = absurd (omega arith)
 settled-todo (Body h zero) s = absurd (omega arith)
 settled-todo (Body h (suc n)) s = refl
 
-module _ (cap : ℕ) (w : Walk) (n : ℕ) (tp m : List ℕ) (fits : w .at + n ≤ length tp) where
-  abbrev resumed : Walk
-  resumed = record { at = w .at + n; phase = uponOf (w .at + n) (length tp); kept = w .kept }
-
-  pub out-off : (a : Answer) (m′ : List ℕ) → foreOf (w .phase) (drop (w .at) tp) ≡ Off → Ends cap resumed tp m a m′ → SetsOut cap w n tp m a m′
-  unfolding foreOf setOut pullOf
-  out-off a m′ e d =
+module _ (w : Walk) (n : ℕ) (tp : List ℕ) where
+  pub out-off : w .at + n ≤ length tp → foreOf (w .phase) (drop (w .at) tp) ≡ Off
+      → SetsOut w n tp (Reads (record { at = w .at + n; phase = uponOf (w .at + n) (length tp); kept = w .kept }))
+  unfolding SetsOut foreOf setOut pullOf
+  out-off fits e =
       let f = frameOf (w .phase) in
       let z = by-off (phase wire f) (foretold wire f (drop (w .at) tp)) f n (drop (w .at) tp) e in
       let u = upon-frame (w .at) n tp in
       let v = upon-todo (w .at + n) (length tp) in
-      let g = d .same in
-      record { same = rw (u, v) at g ∙ sym (ap (λ (t : Start wire). from cap t w tp m) z); sound = d .sound; gained = d .gained }
-
-  lost-by : (i : ℕ) → start wire (frameOf (w .phase)) n (drop (w .at) tp) ≡ resume wire (lose (suc i) ∷ []) n (drop (w .at) tp)
-      → SetsOut cap w n tp m (loseOf (w .at + n) (uponOf (w .at + n) (length tp)) Empty (suc i)) m
-  unfolding setOut shown
-  lost-by i z =
-      let u = upon-frame (w .at) n tp in
-      let v = upon-todo (w .at + n) (length tp) in
       record {
-        same = rw (u, v) (sym (ap (λ (t : Start wire). from cap t w tp m) z));
-        sound = record { at = fits; phase = upon-fine cap (w .at + n) (length tp) Empty (omega arith) };
-        gained = omega arith;
+        same = λ m. rw (u, v) (sym (ap (λ (t : Start wire). from (length m) t w tp m) z));
+        sound = λ cap s. record { at = fits; phase = upon-fine cap (w .at + n) (length tp) (w .kept) (roomy cap (w .phase) (w .kept) (s .phase)) };
       }
 
-  pub out-bad : foreOf (w .phase) (drop (w .at) tp) ≡ Bad → SetsOut cap w n tp m (loseOf (w .at + n) (uponOf (w .at + n) (length tp)) Empty 12) m
+  lost-by : (i : ℕ) → start wire (frameOf (w .phase)) n (drop (w .at) tp) ≡ resume wire (lose (suc i) ∷ []) n (drop (w .at) tp)
+      → SetsOut w n tp (Loses (suc i))
+  unfolding SetsOut setOut shown
+  lost-by i z = λ m.
+      let u = upon-frame (w .at) n tp in
+      let v = upon-todo (w .at + n) (length tp) in
+      rw (u, v) (sym (ap (λ (t : Start wire). from (length m) t w tp m) z))
+
+  pub out-bad : foreOf (w .phase) (drop (w .at) tp) ≡ Bad → SetsOut w n tp (Loses 12)
   unfolding foreOf
   out-bad e =
       let f = frameOf (w .phase) in
       lost-by 11 (by-bad (phase wire f) (foretold wire f (drop (w .at) tp)) f n (drop (w .at) tp) refl e)
 
-  pub out-else : (k : ℕ) → foreOf (w .phase) (drop (w .at) tp) ≡ At k → (k ≡ n → ⊥) → SetsOut cap w n tp m (loseOf (w .at + n) (uponOf (w .at + n) (length tp)) Empty 13) m
+  pub out-else : (k : ℕ) → foreOf (w .phase) (drop (w .at) tp) ≡ At k → (k ≡ n → ⊥) → SetsOut w n tp (Loses 13)
   unfolding foreOf
   out-else k e d =
       let f = frameOf (w .phase) in
       lost-by 12 (by-at k (phase wire f) (foretold wire f (drop (w .at) tp)) f n (drop (w .at) tp) refl e
       ∙ ap (λ (b : Bool). agree wire b f n (drop (w .at) tp)) (ne-eqb k n d))
 
-  pub out-agree : (k : ℕ) (a : Answer) (m′ : List ℕ) → foreOf (w .phase) (drop (w .at) tp) ≡ At k → k ≡ n → Settled (w .phase) → Ends cap w tp m a m′
-      → SetsOut cap w n tp m a m′
-  unfolding foreOf setOut pullOf
-  out-agree k a m′ e d s g =
+  pub out-agree : (k : ℕ) → foreOf (w .phase) (drop (w .at) tp) ≡ At k → k ≡ n → Settled (w .phase) → SetsOut w n tp (Reads w)
+  unfolding SetsOut foreOf setOut pullOf
+  out-agree k e d s =
       let f = frameOf (w .phase) in
       let z : start wire f n (drop (w .at) tp) ≡ record { told = []; frame = f; past = 0 } =
       by-at k (phase wire f) (foretold wire f (drop (w .at) tp)) f n (drop (w .at) tp) refl e
       ∙ ap (λ (b : Bool). agree wire b f n (drop (w .at) tp)) (eq-eqb k n d) in
       let v = settled-todo (w .phase) s in
       let y : w .at + 0 ≡ w .at = omega arith in
-      let x = g .same in
       record {
-        same = rw v at x ∙ sym (ap (λ (t : Start wire). from cap t w tp m) z ∙ ap (λ (i : ℕ). pull wire cap f i (meet wire cap (heldOf (w .kept) m) m []) (drop i tp)) y);
-        sound = g .sound;
-        gained = g .gained;
+        same = λ m. ap (λ (es : List (Event wire)). pull wire (length m) f (w .at) (meet wire (length m) (heldOf (w .kept) m) m es) (drop (w .at) tp)) v
+            ∙ sym (ap (λ (t : Start wire). from (length m) t w tp m) z
+            ∙ ap (λ (i : ℕ). pull wire (length m) f i (meet wire (length m) (heldOf (w .kept) m) m []) (drop i tp)) y);
+        sound = λ cap g. g;
       }

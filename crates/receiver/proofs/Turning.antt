@@ -49,26 +49,6 @@ module _ (cap : ℕ) (tp m : List ℕ) (full : length m ≡ cap) where
   abbrev came : ℕ → Frame wire → List (Event wire) → Took wire → Pulled wire
   came j f es T = pull wire cap f j (met wire (T .1) (T .0) m es (meet wire cap (T .0) m es)) (drop j tp)
 
-  opened-by : (b : Bool) (w : Walk) (j : ℕ) (h : Header) (k : Kept) (T : Took wire) → j ≤ length tp → Roomy cap k 0
-      → 3 * (length tp - j) + 2 < toil (length tp) w
-      → came j (within wire h (h .size)) (entered h ∷ ending wire h (h .size)) T ≡ pullOf cap w tp m
-      → T ≡ cond b (heldOf k m, none) (free, some (notice 14))
-      → Turned cap w tp m (cond b (goes j (Judged h) k) (stops j (Judged h) Empty (Notice 14))) m
-  unfolding Turned pullOf shown
-  opened-by true w j h k T l r u e q =
-      record { same = sym (ap (came j (within wire h (h .size)) (entered h ∷ ending wire h (h .size))) q) ∙ e; sound = record { at = l; phase = r }; less = u }
-  opened-by false w j h k T l r u e q =
-      record { same = sym (ap (came j (within wire h (h .size)) (entered h ∷ ending wire h (h .size))) q) ∙ e; sound = record { at = l; phase = omega arith }; gained = omega arith }
-
-  pub whole-turned : (w : Walk) (j : ℕ) (o : Option Header) (k : Kept) → j ≤ length tp → Roomy cap k 0
-      → 3 * (length tp - j) + 2 < toil (length tp) w
-      → on-with cap (heldOf k m) m (whole wire o) j (drop j tp) ≡ pullOf cap w tp m
-      → Turned cap w tp m (wholeOf j o k) m
-  unfolding Turned pullOf shown openedOf
-  whole-turned w j none k l r u e = record { same = e; sound = record { at = l; phase = omega arith }; gained = omega arith }
-  whole-turned w j (some h) k l r u e =
-      opened-by (meetsOf (kindOf h) k (h .content)) w j h k (meets wire (kindOf h) (heldOf k m) (h .content)) l r u e (meets-law m (kindOf h) k (h .content))
-
   fits-by : (b : Bool) (w : Walk) (j : ℕ) (h : Header) (c n : ℕ) (d : List ℕ) → d ≡ take n m → j ≤ length tp → n ≤ cap
       → 3 * (length tp - j) + 1 < toil (length tp) w
       → came j (within wire h (h .size)) (ending wire h (h .size)) (fits wire cap (h .size) c d) ≡ pullOf cap w tp m
@@ -128,6 +108,26 @@ module _ (cap : ℕ) (tp m : List ℕ) (full : length m ≡ cap) where
       let v : walkAt (w .at) (Judged h) (w .kept) ≡ w = ap (λ (p : Phase). walkAt (w .at) p (w .kept)) (sym q) in
       let s′ = rw (← v) at s in
       rw (← v) (admit-by (kindOf h) (walkAt (w .at) (Judged h) (w .kept)) (w .at) h (w .kept) (s′ .at) (s′ .phase) (omega arith) refl)
+
+  opened-by : (b : Bool) (w : Walk) (j : ℕ) (h : Header) (k : Kept) (T : Took wire) → j ≤ length tp → Roomy cap k 0
+      → 3 * (length tp - j) + 1 < toil (length tp) w
+      → came j (within wire h (h .size)) (entered h ∷ ending wire h (h .size)) T ≡ pullOf cap w tp m
+      → T ≡ cond b (heldOf k m, none) (free, some (notice 14))
+      → Turned cap w tp m (cond b (admitOf (kindOf h) j h k cap) (stops j (Judged h) Empty (Notice 14))) m
+  unfolding Turned pullOf shown
+  opened-by true w j h k T l r u e q =
+      admit-by (kindOf h) w j h k l r u (sym (ap (came j (within wire h (h .size)) (entered h ∷ ending wire h (h .size))) q) ∙ e)
+  opened-by false w j h k T l r u e q =
+      record { same = sym (ap (came j (within wire h (h .size)) (entered h ∷ ending wire h (h .size))) q) ∙ e; sound = record { at = l; phase = omega arith }; gained = omega arith }
+
+  pub whole-turned : (w : Walk) (j : ℕ) (o : Option Header) (k : Kept) → j ≤ length tp → Roomy cap k 0
+      → 3 * (length tp - j) + 1 < toil (length tp) w
+      → on-with cap (heldOf k m) m (whole wire o) j (drop j tp) ≡ pullOf cap w tp m
+      → Turned cap w tp m (wholeOf j o k cap) m
+  unfolding Turned pullOf shown openedOf
+  whole-turned w j none k l r u e = record { same = e; sound = record { at = l; phase = omega arith }; gained = omega arith }
+  whole-turned w j (some h) k l r u e =
+      opened-by (meetsOf (kindOf h) k (h .content)) w j h k (meets wire (kindOf h) (heldOf k m) (h .content)) l r u e (meets-law m (kindOf h) k (h .content))
 
   handed-turned : (w : Walk) (mₒ : List ℕ) (j : ℕ) (k : Kept) → j ≤ length tp → Roomy cap k 0
       → 3 * (length tp - j) < toil (length tp) w

@@ -75,7 +75,7 @@ item-whole tp at n h l e r = begins-whole h (headerIn n) (drop at tp) r ∙ ap (
 
 -- an LLEP that is whole lies within the bytes
 
-broken-else : (b : Bool) (x : Llep) (h : Header) (m : Bool) → cond b Broken x ≡ Whole h m → (b ≡ false) × (x ≡ Whole h m)
+pub broken-else : (b : Bool) (x : Llep) (h : Header) (m : Bool) → cond b Broken x ≡ Whole h m → (b ≡ false) × (x ≡ Whole h m)
 broken-else true x h m e = (cc, cc)
 broken-else false x h m e = (refl, e)
 
@@ -164,6 +164,10 @@ unfolding lows
 lows-in zero tp at b = (omega arith, b)
 lows-in (suc k) tp at b = one-in tp (llep (drop at tp)) at (λ i. lows k tp i) refl b (λ i c. lows-in k tp i c)
 
-pub walk-in : (tp : List ℕ) (at : ℕ) (r : Lows) → at ≤ length tp → lowsOf tp at ≡ r → (at ≤ place r) × (place r ≤ length tp)
+walk-in : (tp : List ℕ) (at : ℕ) (r : Lows) → at ≤ length tp → lowsOf tp at ≡ r → (at ≤ place r) × (place r ≤ length tp)
 unfolding lowsOf
 walk-in tp at r b e = subst (λ (r : Lows). Between at r (length tp)) e (lows-in (suc (length tp)) tp at b)
+
+pub low-in : (low : Bool) (tp : List ℕ) (at : ℕ) (r : Lows) → at ≤ length tp → cond low (lowsOf tp at) (L.End at) ≡ r → (at ≤ place r) × (place r ≤ length tp)
+low-in true tp at r b e = walk-in tp at r b e
+low-in false tp at r b e = subst (λ (r : Lows). Between at r (length tp)) e (omega arith, b)

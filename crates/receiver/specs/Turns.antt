@@ -26,7 +26,7 @@ use Rattle.receiver.specs.Join.{Finding, notice, ordinary}
 use Rattle.receiver.specs.Low.{wire}
 use Rattle.receiver.specs.Pull.{Pulled}
 use Rattle.receiver.specs.Kind.{kindOf}
-use Rattle.receiver.specs.State.{frameOf, todoOf, heldOf, pullOf, Roomy, Sound}
+use Rattle.receiver.specs.State.{frameOf, todoOf, heldOf, pullOf, Sound}
 
 abbrev pub walkAt : ℕ → Phase → Kept → Walk
 walkAt at p k = record { at = at; phase = p; kept = k }
@@ -53,13 +53,6 @@ meetsOf First k c = emptyOf k
 meetsOf Middle k c = holdsOf k c
 meetsOf Last k c = holdsOf k c
 
-unfoldable pub openedOf : ℕ → Header → Kept → Turn
-openedOf at h k = cond (meetsOf (kindOf h) k (h .content)) (goes at (Judged h) k) (stops at (Judged h) Empty (Notice 14))
-
-abbrev pub wholeOf : ℕ → Option Header → Kept → Turn
-wholeOf at none k = stops at Lost Empty (Notice 12)
-wholeOf at (some h) k = openedOf at h k
-
 unfoldable pub fitsOf : ℕ → Header → ℕ → ℕ → ℕ → Turn
 fitsOf at h c n cap =
     cond (leb (h .size) (cap - n)) (goes at (Body h (h .size)) (Of c n)) (stops at (Body h (h .size)) Empty (Notice 15))
@@ -75,6 +68,14 @@ admitOf Complete at h k cap = fitsOf at h (h .content) 0 cap
 admitOf First at h k cap = fitsOf at h (h .content) 0 cap
 admitOf Middle at h k cap = furtherOf at h k cap
 admitOf Last at h k cap = furtherOf at h k cap
+
+unfoldable pub openedOf : ℕ → Header → Kept → ℕ → Turn
+openedOf at h k cap =
+    cond (meetsOf (kindOf h) k (h .content)) (admitOf (kindOf h) at h k cap) (stops at (Judged h) Empty (Notice 14))
+
+abbrev pub wholeOf : ℕ → Option Header → Kept → ℕ → Turn
+wholeOf at none k cap = stops at Lost Empty (Notice 12)
+wholeOf at (some h) k cap = openedOf at h k cap
 
 abbrev pub handedOf : ℕ → Kept → Turn
 handedOf at Empty = goes at (Head 0 0) Empty
@@ -100,11 +101,11 @@ pub record Stored (tp : List ℕ) (at n : ℕ) (k : Kept) (m : List ℕ) (k′ :
   pub kept : k′ ≡ grownBy n k
   pub room : m′ ≡ pasted k m (drop at tp) n
 
-unfoldable pub headerTurn : List ℕ → ℕ → ℕ → ℕ → Kept → Turn
-headerTurn tp at n w k =
+unfoldable pub headerTurn : List ℕ → ℕ → ℕ → ℕ → Kept → ℕ → Turn
+headerTurn tp at n w k cap =
     cond (ltb (length tp - at) (6 - n))
     (stops (at + (length tp - at)) (Head (n + (length tp - at)) (number w (take (length tp - at) (drop at tp)))) k Nothing)
-    (wholeOf (at + (6 - n)) (headerIn (number w (take (6 - n) (drop at tp)))) k)
+    (wholeOf (at + (6 - n)) (headerIn (number w (take (6 - n) (drop at tp)))) k cap)
 
 abbrev pub findOf : Gain → List ℕ → Option (Finding wire)
 findOf Nothing m = none

@@ -62,26 +62,6 @@ fn meets(kind: Kind, kept: Kept, content: u8) -> bool
     }
 }
 
-// A header is whole: 14 if it doesn't fit what is kept.
-fn opened(at: usize, header: Header, kept: Kept) -> Turn
-    ensures { λ r. ⌜ r ≡ openedOf at header kept ⌝ }
-{
-    if meets(kind::kind_of(header), kept, header.content) {
-        return more(at, Phase::Judged(header), kept);
-    }
-    stop(at, Phase::Judged(header), Kept::Empty, Gain::Notice(14))
-}
-
-// Six bytes are there.
-pub fn whole(at: usize, word: u64, kept: Kept) -> Turn
-    ensures { λ r. ⌜ r ≡ wholeOf at (headerIn word) kept ⌝ }
-{
-    match wire::read_header(word) {
-        Read::Beyond => stop(at, Phase::Lost, Kept::Empty, Gain::Notice(12)),
-        Read::Whole(header) => opened(at, header, kept),
-    }
-}
-
 // Into an EP whose data are kept behind len bytes of this content, if the room has place for them.
 fn fits(at: usize, header: Header, content: u8, len: usize, cap: usize) -> Turn
     requires { ⌜ len ≤ cap ⌝ }
@@ -106,7 +86,7 @@ fn further(at: usize, header: Header, kept: Kept, cap: usize) -> Turn
     }
 }
 
-// Into the EP of a header already judged: 16, 15.
+// Into the EP of a header that fits, or that got 14: 16, 15.
 pub fn admit(at: usize, header: Header, kept: Kept, cap: usize) -> Turn
     requires { ⌜ Roomy cap kept 0 ⌝ }
     ensures { λ r. ⌜ r ≡ admitOf (kindOf header) at header kept cap ⌝ }
@@ -121,6 +101,28 @@ pub fn admit(at: usize, header: Header, kept: Kept, cap: usize) -> Turn
         Kind::First => fits(at, header, content, 0, cap),
         Kind::Middle => further(at, header, kept, cap),
         Kind::Last => further(at, header, kept, cap),
+    }
+}
+
+// A header is whole: 14 if it doesn't fit what is kept, else into its EP.
+fn opened(at: usize, header: Header, kept: Kept, cap: usize) -> Turn
+    requires { ⌜ Roomy cap kept 0 ⌝ }
+    ensures { λ r. ⌜ r ≡ openedOf at header kept cap ⌝ }
+{
+    if meets(kind::kind_of(header), kept, header.content) {
+        return admit(at, header, kept, cap);
+    }
+    stop(at, Phase::Judged(header), Kept::Empty, Gain::Notice(14))
+}
+
+// Six bytes are there.
+pub fn whole(at: usize, word: u64, kept: Kept, cap: usize) -> Turn
+    requires { ⌜ Roomy cap kept 0 ⌝ }
+    ensures { λ r. ⌜ r ≡ wholeOf at (headerIn word) kept cap ⌝ }
+{
+    match wire::read_header(word) {
+        Read::Beyond => stop(at, Phase::Lost, Kept::Empty, Gain::Notice(12)),
+        Read::Whole(header) => opened(at, header, kept, cap),
     }
 }
 

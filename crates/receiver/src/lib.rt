@@ -5,6 +5,7 @@ ghost use lib.ListN.{length, take, drop};
 ghost use Rattle.receiver.specs.State.{Able};
 ghost use Rattle.receiver.specs.Call.{callOf, Gives, freshOf, gapOf, OpenedAs, dataOf};
 
+mod entry;
 mod judge;
 mod kind;
 mod low;
@@ -12,6 +13,7 @@ mod outset;
 mod stages;
 mod walk;
 
+use stages::Course;
 use walk::Kept;
 use walk::Phase;
 use walk::Walk;
@@ -111,14 +113,9 @@ pub fn next(r: Receiver, tp: &[u8], room: &mut [u8]) -> Step
             find: Find::Notice(6),
         };
     }
-    let stage = r.stage;
-    let w = r.walk;
-    let at = w.at;
-    match stage {
-        Stage::Fresh => stages::first(r, tp, room),
-        Stage::Low(offset) => stages::low_part(r, offset, at, tp, room),
-        Stage::Due(offset) => stages::due(r, offset, at, tp, room),
-        Stage::Plain => stages::plain(r, tp, room),
+    match stages::take_up(r, tp) {
+        Course::Gives(step) => step,
+        Course::Reads(w) => stages::tell(r, walk::onward(w, tp, room)),
     }
 }
 

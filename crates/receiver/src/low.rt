@@ -64,7 +64,7 @@ fn item(tp: &[u8], at: usize) -> Llep
     if tp.len() - at < 7 {
         return Llep::Broken;
     }
-    match wire::read_header(walk::gather(tp, at, 6, 0, 0)) {
+    match wire::read_header(walk::six(tp, at)) {
         Read::Beyond => Llep::Broken,
         Read::Whole(h) => closed(tp, at, h),
     }

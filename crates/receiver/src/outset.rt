@@ -1,14 +1,11 @@
-// How a TP's ordinary bytes are set about: the forecast, 12 on a header begun earlier, 13.
+// How a TP's ordinary bytes are set about: the offset (10), the forecast, 12 on a header begun earlier, 13.
 ghost use mathlib.Core.Path.{_≡_};
 ghost use Prim.Native.Nat.{_+_, _≤_, _<_, _^_, min};
 ghost use lib.ListN.{length, drop};
 ghost use Rattle.wire.specs.Reading.{headerIn};
-ghost use Rattle.receiver.specs.State.{Sound, Settled};
-ghost use Rattle.receiver.specs.Outset.{foreOf, uponOf, behindOf, aheadOf, loseOf, SetsOut};
+ghost use Rattle.receiver.specs.State.{Settled};
+ghost use Rattle.receiver.specs.Outset.{placeOf, foreOf, uponOf, behindOf, aheadOf, SetsOut};
 use crate::walk;
-use crate::walk::Answer;
-use crate::walk::Gain;
-use crate::walk::Kept;
 use crate::walk::Phase;
 use crate::walk::Walk;
 use wire::Read;
@@ -18,6 +15,18 @@ pub enum Fore {
     Off,
     Bad,
     At(usize),
+}
+
+// Where the first EP that begins here stands: not among the bytes from here on, or behind so many of them.
+pub enum Place {
+    Outside,
+    Behind(usize),
+}
+
+// What the forecast decides: the walk to read on with, or the notice that puts out of step.
+pub enum Start {
+    Reads(Walk),
+    Loses(u8),
 }
 
 pub fn least(a: usize, b: usize) -> usize
@@ -64,8 +73,25 @@ fn forecast(tp: &[u8], at: usize, phase: Phase) -> Fore
     }
 }
 
+// 10 if the offset points outside the bytes behind the low-latency part.
+pub fn place_of(offset: usize, at: usize, len: usize) -> Place
+    requires { ⌜ (offset < 2048) × (at ≤ len) ⌝ }
+    ensures { λ q. ⌜ q ≡ placeOf offset at len ⌝ }
+{
+    if offset == 2047 {
+        return Place::Behind(len - at);
+    }
+    if len <= offset + 4 {
+        return Place::Outside;
+    }
+    if offset + 4 < at {
+        return Place::Outside;
+    }
+    Place::Behind(offset + 4 - at)
+}
+
 // In step from an offset on, if there is one.
-fn upon(at: usize, len: usize) -> Phase
+pub fn upon(at: usize, len: usize) -> Phase
     ensures { λ r. ⌜ r ≡ uponOf at len ⌝ }
 {
     if at < len {
@@ -74,42 +100,30 @@ fn upon(at: usize, len: usize) -> Phase
     Phase::Lost
 }
 
-// Out of step by this notice, and on from here.
-fn lose(at: usize, phase: Phase, kept: Kept, number: u8) -> Answer
-    ensures { λ r. ⌜ r ≡ loseOf at phase kept number ⌝ }
-{
-    Answer {
-        walk: Walk { at, phase, kept },
-        gain: Gain::Notice(number),
-    }
-}
-
 // Sets about a TP's ordinary bytes, of which n stand before the first EP that begins here.
-pub fn set_out(w: Walk, n: usize, tp: &[u8], room: &mut [u8]) -> Answer
-    requires { ⌜ Sound (length (now room)) (length (now tp)) w ⌝ }
+pub fn set_out(w: Walk, n: usize, tp: &[u8]) -> Start
     requires { ⌜ (w .at + n ≤ length (now tp)) × Settled (w .phase) ⌝ }
-    ensures { λ r. ⌜ SetsOut (length (now (room .entry))) w n (now (tp .entry)) (now (room .entry)) r (now (room .exit)) ⌝ }
+    ensures { λ q. ⌜ SetsOut w n (now (tp .entry)) q ⌝ }
 {
     let at = w.at;
     let phase = w.phase;
     let kept = w.kept;
     let start = at + n;
-    let there = upon(start, tp.len());
     match forecast(tp, at, phase) {
         Fore::Off => {
-            let resumed = Walk {
+            let there = upon(start, tp.len());
+            Start::Reads(Walk {
                 at: start,
                 phase: there,
                 kept,
-            };
-            walk::onward(resumed, tp, room)
+            })
         }
-        Fore::Bad => lose(start, there, Kept::Empty, 12),
+        Fore::Bad => Start::Loses(12),
         Fore::At(k) => {
             if k == n {
-                return walk::onward(w, tp, room);
+                return Start::Reads(w);
             }
-            lose(start, there, Kept::Empty, 13)
+            Start::Loses(13)
         }
     }
 }

@@ -1,34 +1,42 @@
-// The stages of a transport packet, each up to its next find.
+// A transport packet from where a call takes it up: the low-latency part, the offset, and what the ordinary bytes gave.
 ghost use mathlib.Core.Path.{_≡_};
 ghost use mathlib.Core.Bool.{cond};
-ghost use mathlib.Core.Option.{some};
 ghost use Prim.Native.Nat.{_+_, _≤_, _<_};
-ghost use lib.ListN.{length, take, drop};
-ghost use Rattle.digits.specs.Digits.{number};
+ghost use lib.ListN.{length};
 ghost use Rattle.receiver.specs.declared.Find.the-variants as F;
-ghost use Rattle.receiver.specs.declared.Stage.the-variants.{Fresh, Low, Due, Plain};
+ghost use Rattle.receiver.specs.declared.Stage.the-variants.{Low, Due, Plain};
 ghost use Rattle.receiver.specs.declared.walk.Kept.the-variants.{Empty};
 ghost use Rattle.receiver.specs.declared.walk.Phase.the-variants.{Lost};
-ghost use Rattle.receiver.specs.State.{Able, pullOf};
+ghost use Rattle.receiver.specs.declared.low.Lows.the-variants as L;
+ghost use Rattle.receiver.specs.declared.stages.Course.the-variants as C;
+ghost use Rattle.receiver.specs.State.{Able};
 ghost use Rattle.receiver.specs.Lows.{lowsOf};
-ghost use Rattle.receiver.specs.Call.{Gives, plainly, dueOf, lowly, begunly, freshly};
-ghost use Rattle.receiver.specs.Steps.{Lent, stepOf, tellOf};
+ghost use Rattle.receiver.specs.Call.{dueOf, staged};
+ghost use Rattle.receiver.specs.Steps.{Lent, Leads, stepOf, tellOf, setly, partly};
 use crate::Find;
 use crate::Receiver;
 use crate::Stage;
 use crate::Step;
+use crate::entry;
+use crate::entry::Begun;
 use crate::low;
 use crate::low::Lows;
 use crate::outset;
-use crate::walk;
+use crate::outset::Place;
+use crate::outset::Start;
 use crate::walk::Answer;
 use crate::walk::Gain;
 use crate::walk::Kept;
 use crate::walk::Phase;
 use crate::walk::Walk;
-use wire::TpWord;
 
-fn step_to(r: Receiver, stage: Stage, at: usize, phase: Phase, kept: Kept, find: Find) -> Step
+// What a stage comes to, whatever room is lent: its find, or the walk to read on with up to the next one.
+pub enum Course {
+    Gives(Step),
+    Reads(Walk),
+}
+
+pub fn step_to(r: Receiver, stage: Stage, at: usize, phase: Phase, kept: Kept, find: Find) -> Step
     ensures { λ q. ⌜ q ≡ stepOf r stage at phase kept find ⌝ }
 {
     Step {
@@ -44,7 +52,7 @@ fn step_to(r: Receiver, stage: Stage, at: usize, phase: Phase, kept: Kept, find:
 }
 
 // What the ordinary bytes gave; none ends the TP.
-fn tell(r: Receiver, a: Answer) -> Step
+pub fn tell(r: Receiver, a: Answer) -> Step
     ensures { λ q. ⌜ q ≡ tellOf (a .gain) r (a .walk) ⌝ }
 {
     let w = a.walk;
@@ -63,53 +71,51 @@ fn tell(r: Receiver, a: Answer) -> Step
 }
 
 // Out of step, the rest of the TP dropped.
-fn drop_rest(r: Receiver, len: usize, number: u8) -> Step
-    ensures { λ q. ⌜ q ≡ stepOf r Plain len Lost Empty (F.Notice number) ⌝ }
+fn drop_rest(r: Receiver, len: usize, number: u8) -> Course
+    ensures { λ q. ⌜ q ≡ C.Gives (stepOf r Plain len Lost Empty (F.Notice number)) ⌝ }
 {
     let find = Find::Notice(number);
-    step_to(r, Stage::Plain, len, Phase::Lost, Kept::Empty, find)
+    Course::Gives(step_to(r, Stage::Plain, len, Phase::Lost, Kept::Empty, find))
 }
 
-// Out of step, the TP dropped.
-fn drop_all(r: Receiver, number: u8) -> Step
-    ensures { λ q. ⌜ q ≡ stepOf r Fresh 0 Lost Empty (F.Notice number) ⌝ }
-{
-    let find = Find::Notice(number);
-    step_to(r, Stage::Fresh, 0, Phase::Lost, Kept::Empty, find)
-}
-
-// Among ordinary bytes.
-pub fn plain(r: Receiver, tp: &[u8], room: &mut [u8]) -> Step
-    requires { ⌜ Able r ⌝ }
-    requires { ⌜ (length (now tp) ≡ r .size) × (length (now room) ≡ r .limit) ⌝ }
-    ensures { λ q. ⌜ Gives (plainly r (pullOf (length (now (room .entry))) (r .walk) (now (tp .entry)) (now (room .entry)))) q (now (tp .entry)) (now (room .exit)) ⌝ }
-{
-    let w = r.walk;
-    let a = walk::onward(w, tp, room);
-    tell(r, a)
-}
-
-// Behind the low-latency part, which ends at `at`.
-pub fn due(r: Receiver, offset: usize, at: usize, tp: &[u8], room: &mut [u8]) -> Step
-    requires { ⌜ (offset < 2048) × Lent r at (now tp) (now room) ⌝ }
-    ensures { λ q. ⌜ Gives (dueOf r offset at (now (tp .entry)) (now (room .entry))) q (now (tp .entry)) (now (room .exit)) ⌝ }
+// Into the ordinary bytes, of which n stand before the first EP that begins here.
+fn set_about(r: Receiver, at: usize, n: usize, tp: &[u8]) -> Course
+    requires { ⌜ (at + n ≤ length (now tp)) × Lent r at (now tp) ⌝ }
+    ensures { λ q. ⌜ Leads (setly r at n (now (tp .entry))) r (now (tp .entry)) q ⌝ }
 {
     let w = r.walk;
     let phase = w.phase;
     let kept = w.kept;
-    let len = tp.len();
-    if offset == 2047 {
-        let a = outset::set_out(Walk { at, phase, kept }, len - at, tp, room);
-        return tell(r, a);
+    match outset::set_out(Walk { at, phase, kept }, n, tp) {
+        Start::Reads(x) => Course::Reads(x),
+        Start::Loses(number) => {
+            let start = at + n;
+            let there = outset::upon(start, tp.len());
+            let find = Find::Notice(number);
+            Course::Gives(step_to(r, Stage::Plain, start, there, Kept::Empty, find))
+        }
     }
-    if len <= offset + 4 {
-        return drop_rest(r, len, 10);
+}
+
+// Behind the low-latency part, which ends at `at`.
+fn due(r: Receiver, offset: usize, at: usize, tp: &[u8]) -> Course
+    requires { ⌜ (offset < 2048) × Lent r at (now tp) ⌝ }
+    ensures { λ q. ⌜ Leads (dueOf r offset at (now (tp .entry))) r (now (tp .entry)) q ⌝ }
+{
+    match outset::place_of(offset, at, tp.len()) {
+        Place::Outside => drop_rest(r, tp.len(), 10),
+        Place::Behind(n) => set_about(r, at, n, tp),
     }
-    if offset + 4 < at {
-        return drop_rest(r, len, 10);
+}
+
+fn low_walk(low: bool, tp: &[u8], at: usize) -> Lows
+    requires { ⌜ at ≤ length (now tp) ⌝ }
+    ensures { λ q. ⌜ q ≡ cond low (lowsOf (now (tp .entry)) at) (L.End at) ⌝ }
+{
+    if low {
+        return low::walk(tp, at);
     }
-    let a = outset::set_out(Walk { at, phase, kept }, offset + 4 - at, tp, room);
-    tell(r, a)
+    Lows::End(at)
 }
 
 fn low_stage(more: bool, offset: usize) -> Stage
@@ -121,58 +127,33 @@ fn low_stage(more: bool, offset: usize) -> Stage
     Stage::Due(offset)
 }
 
-// In the low-latency part.
-pub fn low_part(r: Receiver, offset: usize, at: usize, tp: &[u8], room: &mut [u8]) -> Step
-    requires { ⌜ (offset < 2048) × Lent r at (now tp) (now room) ⌝ }
-    ensures { λ q. ⌜ Gives (lowly (lowsOf (now (tp .entry)) at) r offset (now (tp .entry)) (now (room .entry))) q (now (tp .entry)) (now (room .exit)) ⌝ }
+// The low-latency part, if there is one, and what is behind it.
+fn part(r: Receiver, low: bool, offset: usize, at: usize, tp: &[u8]) -> Course
+    requires { ⌜ (offset < 2048) × Lent r at (now tp) ⌝ }
+    ensures { λ q. ⌜ Leads (partly low r offset at (now (tp .entry))) r (now (tp .entry)) q ⌝ }
 {
     let w = r.walk;
     let phase = w.phase;
     let kept = w.kept;
-    match low::walk(tp, at) {
+    match low_walk(low, tp, at) {
         Lows::Broken(_) => drop_rest(r, tp.len(), 11),
-        Lows::End(i) => due(r, offset, i, tp, room),
+        Lows::End(i) => due(r, offset, i, tp),
         Lows::Gives { find, more, end } => {
             let stage = low_stage(more, offset);
-            step_to(r, stage, end, phase, kept, find)
+            Course::Gives(step_to(r, stage, end, phase, kept, find))
         }
     }
 }
 
-fn begun(r: Receiver, low: bool, offset: usize, tp: &[u8], room: &mut [u8]) -> Step
-    requires { ⌜ (offset < 2048) × Lent r 4 (now tp) (now room) ⌝ }
-    ensures { λ q. ⌜ Gives (begunly low r offset (now (tp .entry)) (now (room .entry))) q (now (tp .entry)) (now (room .exit)) ⌝ }
+// Takes the TP up where it stands. Each part of the way is called once, so that the compiler makes one function of all.
+pub fn take_up(r: Receiver, tp: &[u8]) -> Course
+    requires { ⌜ Able r × (length (now tp) ≡ r .size) ⌝ }
+    ensures { λ q. ⌜ Leads (staged (r .stage) r (now (tp .entry))) r (now (tp .entry)) q ⌝ }
 {
-    if low {
-        return low_part(r, offset, 4, tp, room);
-    }
-    due(r, offset, 4, tp, room)
-}
-
-fn tp_word(tp: &[u8]) -> u32
-    requires { ⌜ 4 ≤ length (now tp) ⌝ }
-    ensures { λ q. ⌜ q ≡ number 0 (take 3 (drop 1 (now (tp .entry)))) ⌝ }
-{
-    walk::gather(tp, 1, 3, 0, 0) as u32
-}
-
-// A TP's first call: 8, 7, 9.
-pub fn first(r: Receiver, tp: &[u8], room: &mut [u8]) -> Step
-    requires { ⌜ Able r × Lent r 4 (now tp) (now room) ⌝ }
-    ensures { λ q. ⌜ Gives (freshly r (now (tp .entry)) (now (room .entry))) q (now (tp .entry)) (now (room .exit)) ⌝ }
-{
-    let b = tp[0];
-    if b / 16 != r.stream {
-        return Step {
-            receiver: r,
-            find: Find::Notice(8),
-        };
-    }
-    if b % 4 != 0 {
-        return drop_all(r, 7);
-    }
-    match wire::read_tp_word(tp_word(tp)) {
-        TpWord::Beyond => drop_all(r, 9),
-        TpWord::Says { low, offset } => begun(r, low, offset, tp, room),
+    let w = r.walk;
+    match entry::begin(r, tp) {
+        Begun::Gives(step) => Course::Gives(step),
+        Begun::Part { low, offset, at } => part(r, low, offset, at, tp),
+        Begun::Plain => Course::Reads(w),
     }
 }

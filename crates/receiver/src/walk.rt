@@ -1,6 +1,6 @@
 // Ordinary bytes: read on up to the next find, in runs.
 ghost use mathlib.Core.Path.{_≡_};
-ghost use Prim.Native.Nat.{_+_, _≤_, _<_, _^_};
+ghost use Prim.Native.Nat.{_+_, _-_, _≤_, _<_, _^_};
 ghost use lib.ListN.{length, take, drop};
 ghost use Rattle.digits.specs.Digits.{number};
 ghost use Rattle.receiver.specs.declared.walk.Phase.the-variants.{Body};
@@ -9,8 +9,8 @@ ghost use Rattle.receiver.specs.Turns.{walkAt, headerTurn, Stored, Turne
 use crate::judge;
 use wire::Header;
 
-// Out of step; in a header, of which these bytes are read (none between two EPs); at a header already judged against
-// what is kept; in an EP's data, of which so many bytes are left.
+// Out of step; in a header, of which these bytes are read (none between two EPs); behind a header that got 14; in an
+// EP's data, of which so many bytes are left.
 pub enum Phase {
     Lost,
     Head { have: usize, word: u64 },
@@ -85,10 +85,32 @@ pub fn gather(tp: &[u8], at: usize, n: usize, have: usize, word: u64) -> u64
     w
 }
 
+// The number of six bytes.
+pub fn six(tp: &[u8], at: usize) -> u64
+    requires { ⌜ at + 6 ≤ length (now tp) ⌝ }
+    ensures { λ r. ⌜ r ≡ number 0 (take 6 (drop at (now (tp .entry)))) ⌝ }
+{
+    let end = at + 6;
+    let h = &tp[at..end];
+    digits::from_six(h[0], h[1], h[2], h[3], h[4], h[5])
+}
+
+// A header's number, of which have bytes are read; at once where none is.
+fn complete(tp: &[u8], at: usize, have: usize, word: u64) -> u64
+    requires { ⌜ (have ≤ 5) × (word < 256 ^ have) × (at + (6 - have) ≤ length (now tp)) ⌝ }
+    ensures { λ r. ⌜ r ≡ number word (take (6 - have) (drop at (now (tp .entry)))) ⌝ }
+{
+    if have == 0 {
+        return six(tp, at);
+    }
+    gather(tp, at, 6 - have, have, word)
+}
+
 // Reading a header on.
-fn header(tp: &[u8], at: usize, have: usize, word: u64, kept: Kept) -> Turn
+fn header(tp: &[u8], at: usize, have: usize, word: u64, kept: Kept, cap: usize) -> Turn
     requires { ⌜ (have ≤ 5) × (word < 256 ^ have) × (at ≤ length (now tp)) ⌝ }
-    ensures { λ r. ⌜ r ≡ headerTurn (now (tp .entry)) at have word kept ⌝ }
+    requires { ⌜ Roomy cap kept 0 ⌝ }
+    ensures { λ r. ⌜ r ≡ headerTurn (now (tp .entry)) at have word kept cap ⌝ }
 {
     let rest = tp.len() - at;
     let missing = 6 - have;
@@ -99,8 +121,8 @@ fn header(tp: &[u8], at: usize, have: usize, word: u64, kept: Kept) -> Turn
         let phase = Phase::Head { have: got, word: w };
         return judge::stop(end, phase, kept, Gain::Nothing);
     }
-    let w = gather(tp, at, missing, have, word);
-    judge::whole(at + missing, w, kept)
+    let w = complete(tp, at, have, word);
+    judge::whole(at + missing, w, kept, cap)
 }
 
 // Reading an EP's data on.
@@ -130,7 +152,7 @@ fn advance(w: Walk, tp: &[u8], room: &mut [u8]) -> Turn
     let kept = w.kept;
     match phase {
         Phase::Lost => judge::stop(tp.len(), phase, kept, Gain::Nothing),
-        Phase::Head { have, word } => header(tp, at, have, word, kept),
+        Phase::Head { have, word } => header(tp, at, have, word, kept, room.len()),
         Phase::Judged(h) => judge::admit(at, h, kept, room.len()),
         Phase::Body { header: h, left } => body(tp, at, h, left, kept, room),
     }

@@ -1,47 +1,24 @@
 -- Laws of headers read from queued bytes. Assumes nothing.
-use mathlib.Core.Path.{_≡_, sym, ap, _∙_}
+use mathlib.Core.Path.{_≡_, ap, _∙_}
 use mathlib.Core.Bool.{true, false, _&&_}
 use mathlib.Core.List.{List, [], _∷_}
-use Prim.Native.Nat.{ℕ, _+_, _*_, _≤_, _<_}
-use native.Mathlib.Nat.{add-assoc, add-zero}
+use Prim.Native.Nat.{ℕ, _+_, _≤_, _<_}
 use native.Mathlib.Omega.{arith}
 use lib.Dec.{leb, ltb, eqb}
-use lib.ListN.{length, drop, getD, length-drop}
-use lib.Seq.{getD-drop, take-all}
+use lib.ListN.{length, getD}
+use lib.Seq.{take-all}
 use borrow.Author.Tests.{le-ltb, lt-ltb, le-leb, lt-leb, eq-eqb, ne-eqb, leb-true, ltb-true}
 use Rattle.digits.specs.Digits.{number}
+use Rattle.queue.proofs.Sixes.{six}
 use Rattle.wire.specs.Wire.{header}
 use Rattle.sender.specs.Offering.{known}
 use Rattle.sender.specs.Drawing.{headAt, sizeIn, contentIn, lowIn, lowAt, next, span, overwritten}
-use Rattle.sender.specs.Steps.{wordAt}
 use Rattle.sender.proofs.Bools.{and-left, cond-case}
 
--- ---- six bytes, by three
+-- ---- six bytes as a number
 
-word-drop : (q : List ℕ) (n i : ℕ) → wordAt (drop n q) i ≡ wordAt q (n + i)
-unfolding wordAt
-word-drop q n i = simp (getD-drop, add-assoc)
-
-two-words : (q : List ℕ) → 6 ≤ length q → wordAt q 0 * 16777216 + wordAt q 3 ≡ headAt q
-unfolding headAt wordAt
-two-words [] h = absurd (omega arith)
-two-words (a ∷ []) h = absurd (omega arith)
-two-words (a ∷ b ∷ []) h = absurd (omega arith)
-two-words (a ∷ b ∷ c ∷ []) h = absurd (omega arith)
-two-words (a ∷ b ∷ c ∷ d ∷ []) h = absurd (omega arith)
-two-words (a ∷ b ∷ c ∷ d ∷ e ∷ []) h = absurd (omega arith)
-two-words (a ∷ b ∷ c ∷ d ∷ e ∷ f ∷ q) h = omega arith
-
-pub six-bytes : (b : List ℕ) → length b ≡ 6
-    → (getD b 0 0 * 65536 + getD b 1 0 * 256 + getD b 2 0) * 16777216 + (getD b 3 0 * 65536 + getD b 4 0 * 256 + getD b 5 0) ≡ number 0 b
-unfolding headAt wordAt
-six-bytes b l = two-words b (omega arith) ∙ ap (number 0) (take-all 6 b (omega arith))
-
-pub head-is : (q : List ℕ) (i : ℕ) → i + 6 ≤ length q → wordAt q i * 16777216 + wordAt q (i + 3) ≡ headAt (drop i q)
-head-is q i h =
-    let l = length-drop i q in
-    ap (λ (n : ℕ). wordAt q n * 16777216 + wordAt q (i + 3)) (sym (add-zero i))
-    ∙ rw (← word-drop q i 0, ← word-drop q i 3) (two-words (drop i q) (omega arith))
+pub number-six : (b : List ℕ) → length b ≡ 6 → number 0 (getD b 0 0 ∷ getD b 1 0 ∷ getD b 2 0 ∷ getD b 3 0 ∷ getD b 4 0 ∷ getD b 5 0 ∷ []) ≡ number 0 b
+number-six b l = ap (number 0) (six b (omega arith) ∙ take-all 6 b (omega arith))
 
 -- ---- an EP that could have been accepted
 

@@ -10,13 +10,3 @@ pub mod Under
 pub mod Stream
 pub mod Drawn
 pub mod Lengths
-pub mod Marks
-pub mod Waits
-pub mod Flows
-pub mod Headed
-pub mod Begins
-pub mod Offsets
-pub mod RunOffers
-pub mod RunDraws
-pub mod RunCalls
-pub mod Laws

@@ -76,3 +76,10 @@ sp-length F c d p h =
     let i = later-length (length d) F c (drop F d) p (omega arith) (omega arith) in
     rw (first-piece F c d h, piece-length F c 1 d (flatten (later (length d) F c (drop F d))) (omega arith), i, l)
     (add-up (length d) F ((length d - F - 1) / F) ((length d - 1) / F) (omega arith) (shorter (length d) F p h))
+
+pub sp-least : (F c : ℕ) (d : List ℕ) → 1 ≤ F → length d ≤ length (spBytes F c d)
+sp-least F c d p =
+    ⊎-elim
+    (λ h. let e = ap length (one-piece F c d h) ∙ ep-length c 0 d in omega arith)
+    (λ h. let e = sp-length F c d p h in omega arith)
+    (split (length d) F)

@@ -1,5 +1,5 @@
 -- EP bytes put behind what a ring holds, one after another. Assumes nothing.
-use mathlib.Core.Path.{_≡_, ap, _∙_}
+use mathlib.Core.Path.{_≡_, refl, ap, _∙_}
 use mathlib.Core.List.{List, [], _++_}
 use Prim.Native.Nat.{ℕ, _+_, _≤_}
 use native.Mathlib.Omega.{arith}
@@ -8,7 +8,6 @@ use Rattle.queue.specs.declared.Ring.{Ring}
 use Rattle.queue.specs.Ring.{Left, Kept, longer, written, pushed}
 use Rattle.queue.proofs.Puts.{push-fits, length-written, kept-written, written-two, longer-two, put-none}
 use Rattle.wire.specs.Wire.{header, ep}
-use Rattle.wire.proofs.Laws.{header-length}
 use Rattle.sender.specs.Steps.{Put}
 
 module _ (b : List ℕ) (q : Ring) (w : Kept b q) where
@@ -41,15 +40,18 @@ module _ (b : List ℕ) (q : Ring) (w : Kept b q) where
         v ∙ rw (bytes-is, ring-is, longer-two q (length e) (length f), written-two b e f q w r, ← length-append e f)
 
 -- a header, and then the data
-pub put-both : (b : List ℕ) (q : Ring) (c f : ℕ) (d : List ℕ) → Kept b q → q .len + (6 + length d) ≤ length b → (h b₁ b₂ : List ℕ) (t₁ t₂ : Ring)
-    → h ≡ header c f (length d) → record { ring = t₁; bytes = b₁ } ≡ pushed b q h → record { ring = t₂; bytes = b₂ } ≡ pushed b₁ t₁ d
-    → record { ring = t₂; bytes = b₂ } ≡ Put b q (ep c f d)
-unfolding ep
-put-both b q c f d w p h b₁ b₂ t₁ t₂ e u v =
-    let l : length h ≡ 6 = ap length e ∙ header-length c f (length d) in
+pub put-both : (b : List ℕ) (q : Ring) (h d : List ℕ) → Kept b q → length h ≡ 6 → q .len + (6 + length d) ≤ length b → (b₁ b₂ : List ℕ) (t₁ t₂ : Ring)
+    → record { ring = t₁; bytes = b₁ } ≡ pushed b q h → record { ring = t₂; bytes = b₂ } ≡ pushed b₁ t₁ d
+    → record { ring = t₂; bytes = b₂ } ≡ Put b q (h ++ d)
+put-both b q h d w l p b₁ b₂ t₁ t₂ u v =
     let u′ = is-put b q w h (record { ring = t₁; bytes = b₁ }) (omega arith) u in
     let k = kept b q w h b₁ t₁ (omega arith) u′ in
     let m = same b q w h b₁ t₁ (omega arith) u′ in
     let n = longer-by b q w h b₁ t₁ (omega arith) u′ in
     let v′ = is-put b₁ t₁ k d (record { ring = t₂; bytes = b₂ }) (omega arith) v in
-    then b q w h b₁ t₁ (omega arith) u′ d b₂ t₂ (omega arith) v′ ∙ ap (λ (x : List ℕ). Put b q (x ++ d)) e
+    then b q w h b₁ t₁ (omega arith) u′ d b₂ t₂ (omega arith) v′
+
+-- the same, as an EP
+pub put-as : (b : List ℕ) (q : Ring) (c f n : ℕ) (h d : List ℕ) (x : Left) → h ≡ header c f n → length d ≡ n → x ≡ Put b q (h ++ d) → x ≡ Put b q (ep c f d)
+unfolding ep
+put-as b q c f n h d x e l u = u ∙ rw (e, ← l) refl

@@ -3,7 +3,7 @@ use mathlib.Core.Path.{_≡_, refl, sym, ap, _∙_}
 use Prim.Native.Nat.{ℕ, zero, suc, _+_, _-_, _≤_, _<_, min}
 use native.Mathlib.Nat.{suc-sub-suc, sub-zero, zero-sub, zero-min, min-zero, suc-min-suc, min-le-right, le-trans, le-add-right}
 use native.Mathlib.Omega.{arith}
-use mathlib.Core.List.{List, [], _∷_, _++_, append-assoc}
+use mathlib.Core.List.{List, [], _∷_, _++_, append-assoc, append-nil}
 use lib.ListN.{length, take, drop, replicate, length-append, length-take, length-replicate}
 use lib.Seq.{paste, take-paste, length-paste, take-all, take-nil, drop-nil, length-take-le, take-length}
 use Rattle.queue.specs.declared.Ring.{Ring}
@@ -101,6 +101,12 @@ fill-taken (suc m) k e =
     let t : take (suc m) (header 0 0 (suc m - 6)) ≡ take k (header 0 0 (suc m - 6)) = sym (take-min (suc m) (header 0 0 (suc m - 6))) ∙ ap (λ (j : ℕ). take j (header 0 0 (suc m - 6))) kj in
     let u : take (suc m - 6) d ≡ d = take-all (suc m - 6) d (omega arith) in
     rw z (take-both (suc m) (header 0 0 (length d)) d ∙ rw (l, hl, t, u))
+
+-- nothing is lacking
+pub fill-nothing : (d : List ℕ) (at m : ℕ) → m ≡ length d - at → m ≡ 0 → d ≡ take at d ++ take m (fill m)
+fill-nothing d at m e z =
+    let t : take at d ≡ d = take-all at d (omega arith) in
+    rw (z, t) (sym (append-nil d))
 
 pub fill-written : (d d₁ d₂ h : List ℕ) (at k m : ℕ) → at ≤ length d → m ≡ length d - at → k ≡ min 6 m → h ≡ header 0 0 (m - k)
     → d₁ ≡ copied d at (take (k - 0) h) → d₂ ≡ copied d₁ (at + k) (replicate (m - k) 0xAA)

@@ -1,23 +1,20 @@
--- A sender run over any list of calls, by the definitions that its contracts cite, in buffers that nobody else writes.
--- What demand 3 says of the sender is said of this. Assumes nothing.
-use mathlib.Core.Bool.{cond}
+-- A sender run over any calls, by the definitions that its contracts cite (document 01, "Sender"), in queue buffers that nobody else
+-- writes. A draw may be lent a buffer of any length: another than the TP length is refused. Assumes nothing.
 use mathlib.Core.List.{List, [], _∷_, _++_}
-use Prim.Native.Nat.{ℕ, zero, suc, _+_, _-_}
-use lib.Dec.{leb, eqb}
-use lib.ListN.{length, take, replicate}
+use Prim.Native.Nat.{ℕ, suc, _-_}
+use lib.ListN.{length, replicate}
 use Rattle.queue.specs.Ring.{held}
-use Rattle.wire.specs.Wire.{ep}
 use Rattle.sender.specs.declared.Sender.{Sender}
 use Rattle.sender.specs.declared.Answer.{Answer}
 use Rattle.sender.specs.declared.Answer.the-variants.{Done, Refused}
-use Rattle.sender.specs.Answers.{number}
-use Rattle.sender.specs.Offering.{pieces, ordinaryOffered, lowOffered}
-use Rattle.sender.specs.Drawing.{leave, part, fill, lacking, stream, drew}
+use Rattle.sender.specs.Offering.{ordinaryOffered, lowOffered}
+use Rattle.sender.specs.Drawing as D
+use Rattle.sender.specs.Drawing.{leave, part, lacking}
 
+-- an offer of this content and data, or a draw into this buffer
 pub data Call : Type 0 where
-  ordinary : ℕ → List ℕ → Call
-  low : ℕ → List ℕ → Call
-  draw : Call
+  ordinary low : ℕ → List ℕ → Call
+  draw : List ℕ → Call
 
 -- a sender and its two queue buffers
 pub record World : Type 0 where
@@ -25,101 +22,66 @@ pub record World : Type 0 where
   pub low : List ℕ
   pub ordinary : List ℕ
 
--- what a draw puts into its TP: LLEPs, ordinary bytes; and how many of these were lacking
-pub record Load : Type 0 where
-  pub lows : List (List ℕ)
-  pub own : List ℕ
-  pub lack : ℕ
+-- a TP drawn: its bytes, the LLEPs in it, and the bytes of the fill EP that begins in it, if one does
+pub record Tp : Type 0 where
+  pub bytes : List ℕ
+  pub lleps : List (List ℕ)
+  pub fill : List ℕ
 
-abbrev pub loadWith : ℕ → World → List (List ℕ) → Load
-loadWith r w es =
-    record {
-      lows = es;
-      own = take r (stream r (w .sender .owed) (held (w .ordinary) (w .sender .ordinary)));
-      lack = lacking r (w .sender .owed) (held (w .ordinary) (w .sender .ordinary));
-    }
+-- what a call did: an offer that was accepted, with its content and data; a draw that gave a TP
+pub data Deed : Type 0 where
+  refused : Deed
+  took tookLow : ℕ → List ℕ → Deed
+  drew : Tp → Deed
 
-abbrev pub lowsOf : World → List (List ℕ)
-lowsOf w = leave (suc (w .sender .setting .payload)) (w .sender .setting .payload) (held (w .low) (w .sender .low)) (w .sender .setting .payload)
+-- the LLEPs that leave at the next draw, and the fill that follows where the queue is empty
+abbrev pub leaving : World → List (List ℕ)
+leaving w = let P = w .sender .setting .payload in leave (suc P) P (held (w .low) (w .sender .low)) P
 
-abbrev pub loadOf : World → Load
-loadOf w = loadWith (w .sender .setting .payload - length (part (lowsOf w))) w (lowsOf w)
+abbrev pub filling : World → List ℕ
+filling w =
+    D.fill (lacking (w .sender .setting .payload - length (part (leaving w))) (w .sender .owed) (held (w .ordinary) (w .sender .ordinary)))
 
-pub data Out : Type 0 where
-  refused : ℕ → Out
-  took : ℕ → List ℕ → Out
-  tookLow : ℕ → List ℕ → Out
-  drawn : List ℕ → Load → Out
+-- a refusal leaves the sender unchanged
+abbrev pub kept : Sender → Answer → Sender
+kept s (Done t) = t
+kept s (Refused k) = s
 
--- a refusal leaves the sender as it was
-abbrev pub ordinaryLeft : World → Out → Answer → List ℕ → World × Out
-ordinaryLeft w o (Done s) b = (record { sender = s; low = w .low; ordinary = b }, o)
-ordinaryLeft w o (Refused k) b = (record { sender = w .sender; low = w .low; ordinary = b }, refused (number k))
+abbrev pub next : World → Call → World
+next w (ordinary c d) =
+    let x = ordinaryOffered (w .sender) (w .low) (w .ordinary) c d in
+    record { sender = kept (w .sender) (x .answer); low = w .low; ordinary = x .buffer }
+next w (low c d) =
+    let x = lowOffered (w .sender) (w .low) (w .ordinary) c d in
+    record { sender = kept (w .sender) (x .answer); low = x .buffer; ordinary = w .ordinary }
+next w (draw b) = record { sender = kept (w .sender) (D.drew (w .sender) (w .low) (w .ordinary) b .answer); low = w .low; ordinary = w .ordinary }
 
-abbrev pub lowLeft : World → Out → Answer → List ℕ → World × Out
-lowLeft w o (Done s) b = (record { sender = s; low = b; ordinary = w .ordinary }, o)
-lowLeft w o (Refused k) b = (record { sender = w .sender; low = b; ordinary = w .ordinary }, refused (number k))
+abbrev pub unless : Answer → Deed → Deed
+unless (Done s) d = d
+unless (Refused k) d = refused
 
-abbrev pub tpLeft : World → Answer → List ℕ → World × Out
-tpLeft w (Done s) b = (record { sender = s; low = w .low; ordinary = w .ordinary }, drawn b (loadOf w))
-tpLeft w (Refused k) b = (w, refused (number k))
+abbrev pub deed : World → Call → Deed
+deed w (ordinary c d) = unless (ordinaryOffered (w .sender) (w .low) (w .ordinary) c d .answer) (took c d)
+deed w (low c d) = unless (lowOffered (w .sender) (w .low) (w .ordinary) c d .answer) (tookLow c d)
+deed w (draw b) =
+    let x = D.drew (w .sender) (w .low) (w .ordinary) b in
+    unless (x .answer) (drew (record { bytes = x .buffer; lleps = leaving w; fill = filling w }))
 
-abbrev pub call : World → Call → World × Out
-call w (ordinary c d) = let r = ordinaryOffered (w .sender) (w .low) (w .ordinary) c d in ordinaryLeft w (took c d) (r .answer) (r .buffer)
-call w (low c d) = let r = lowOffered (w .sender) (w .low) (w .ordinary) c d in lowLeft w (tookLow c d) (r .answer) (r .buffer)
-call w draw = let r = drew (w .sender) (w .low) (w .ordinary) (replicate (w .sender .setting .payload + 4) 0) in tpLeft w (r .answer) (r .buffer)
-
-abbrev pub outs : World → List Call → List Out
-outs w [] = []
-outs w (c ∷ cs) = call w c .1 ∷ outs (call w c .0) cs
+abbrev pub deeds : World → List Call → List Deed
+deeds w [] = []
+deeds w (c ∷ cs) = deed w c ∷ deeds (next w c) cs
 
 abbrev pub left : World → List Call → World
 left w [] = w
-left w (c ∷ cs) = left (call w c .0) cs
+left w (c ∷ cs) = left (next w c) cs
 
--- ---- what came of it, in order
+-- the ordinary bytes still to be drawn: owed fill bytes, then the queue
+abbrev pub undrawn : World → List ℕ
+undrawn w = replicate (w .sender .owed) 0 ++ held (w .ordinary) (w .sender .ordinary)
 
--- the ordinary bytes drawn
-abbrev pub owns : List Out → List ℕ
-owns [] = []
-owns (refused k ∷ os) = owns os
-owns (took c d ∷ os) = owns os
-owns (tookLow c d ∷ os) = owns os
-owns (drawn b l ∷ os) = l .own ++ owns os
-
--- a fill EP, if bytes were lacking
-abbrev pub filling : ℕ → List (List ℕ)
-filling zero = []
-filling (suc m) = fill (suc m) ∷ []
-
--- the items of the stream: a packet's pieces, or fill; each is a list of EPs, between which nothing else stands
-abbrev pub items : ℕ → List Out → List (List (List ℕ))
-items F [] = []
-items F (refused k ∷ os) = items F os
-items F (took c d ∷ os) = pieces F c d ∷ items F os
-items F (tookLow c d ∷ os) = items F os
-items F (drawn b l ∷ os) = filling (l .lack) ∷ items F os
-
--- the low-latency EPs that left, and those accepted
-abbrev pub lowsLeft : List Out → List (List ℕ)
-lowsLeft [] = []
-lowsLeft (refused k ∷ os) = lowsLeft os
-lowsLeft (took c d ∷ os) = lowsLeft os
-lowsLeft (tookLow c d ∷ os) = lowsLeft os
-lowsLeft (drawn b l ∷ os) = l .lows ++ lowsLeft os
-
-abbrev pub lowsTaken : List Out → List (List ℕ)
-lowsTaken [] = []
-lowsTaken (refused k ∷ os) = lowsTaken os
-lowsTaken (took c d ∷ os) = lowsTaken os
-lowsTaken (tookLow c d ∷ os) = ep c 0 d ∷ lowsTaken os
-lowsTaken (drawn b l ∷ os) = lowsTaken os
-
--- the ordinary bytes still to come: owed fill, and the queue
-abbrev pub pending : World → List ℕ
-pending w = replicate (w .sender .owed) 0 ++ held (w .ordinary) (w .sender .ordinary)
-
--- behind the first n bytes of a stream of EPs so many stand before the first EP that begins there
-unfoldable pub begins : ℕ → List (List ℕ) → ℕ
-begins n [] = 0
-begins n (e ∷ es) = cond (eqb n 0) 0 (cond (leb (length e) n) (begins (n - length e) es) (length e - n))
+abbrev pub tps : List Deed → List Tp
+tps [] = []
+tps (refused ∷ ds) = tps ds
+tps (took c d ∷ ds) = tps ds
+tps (tookLow c d ∷ ds) = tps ds
+tps (drew t ∷ ds) = t ∷ tps ds

@@ -1,19 +1,49 @@
 -- What the private steps of an offer and of a draw ensure of each other. Assumes nothing.
 use mathlib.Core.Path.{_≡_}
+use mathlib.Core.Bool.{Bool, true, false, not}
 use mathlib.Core.List.{List, _++_, flatten}
-use Prim.Native.Nat.{ℕ, suc, _+_, _-_, _*_, _≤_, min}
-use lib.ListN.{length, take, getD}
+use Prim.Native.Nat.{ℕ, suc, _+_, _-_, _≤_, min}
+use lib.Dec.{ltb}
+use lib.ListN.{length, take}
 use Rattle.queue.specs.declared.Ring.{Ring}
 use Rattle.queue.specs.Ring.{Left, held, longer, written, off}
+use Rattle.sender.specs.declared.Refusal.{Refusal}
+use Rattle.sender.specs.declared.Refusal.the-variants.{Content, Long, Full}
+use Rattle.sender.specs.declared.checks.Check.{Check}
+use Rattle.sender.specs.declared.checks.Check.the-variants.{Fine, No}
+use Rattle.sender.specs.declared.Sender.{Sender}
+use Rattle.sender.specs.Offering.{known, spBytes}
 use Rattle.sender.specs.Drawing.{leave, part, stream, owedAfter}
+
+-- ---- an offer
+
+-- a check's answer: the refusal where the test holds
+abbrev pub checked : Bool → Refusal → Check
+checked true k = No k
+checked false k = Fine
+
+abbrev pub firstOf : Check → Check → Check
+firstOf Fine b = b
+firstOf (No k) b = No k
+
+-- 2, 3, 4 in this order, for an SP of at most so many bytes in pieces of F and a queue with so much room
+unfoldable pub judgedOf : ℕ → List ℕ → ℕ → ℕ → ℕ → Check
+judgedOf c d most F room =
+    firstOf (checked (not (known c)) Content)
+    (firstOf (checked (ltb most (length d)) Long)
+    (checked (ltb room (length (spBytes F c d))) Full))
+
+abbrev pub withOrdinary : Sender → Ring → Sender
+withOrdinary s q = record { setting = s .setting; low = s .low; ordinary = q; owed = s .owed; rest = s .rest }
+
+abbrev pub withLow : Sender → Ring → Sender
+withLow s q = record { setting = s .setting; low = q; ordinary = s .ordinary; owed = s .owed; rest = s .rest }
 
 -- e put behind what q holds in b
 abbrev pub Put : List ℕ → Ring → List ℕ → Left
 Put b q e = record { ring = longer q (length e); bytes = written b q e }
 
--- three bytes from place i on as a number
-unfoldable pub wordAt : List ℕ → ℕ → ℕ
-wordAt q i = getD q i 0 * 65536 + getD q (i + 1) 0 * 256 + getD q (i + 2) 0
+-- ---- a draw
 
 -- the low-latency part was written behind a TP's first four bytes: r is the ring then, at the part's end in d′
 pub record Parted (P : ℕ) (b : List ℕ) (q : Ring) (d d′ : List ℕ) (r : Ring) (at : ℕ) : Type 0 where

@@ -7,6 +7,7 @@ ghost use Rattle.sender.specs.Answers.{lent};
 ghost use Rattle.sender.specs.Opening.{opened, Sound, SoundAnswer};
 ghost use Rattle.sender.specs.Offering.{ordinaryOffered, lowOffered};
 ghost use Rattle.sender.specs.Drawing.{took, drawBy, drew};
+ghost use Rattle.sender.specs.Steps.{withOrdinary, withLow};
 
 mod checks;
 mod eps;
@@ -14,6 +15,7 @@ mod ordinary;
 mod part;
 mod reading;
 
+use checks::Check;
 use queue::Ring;
 
 // Document 01's numbers 1 to 5.
@@ -89,6 +91,34 @@ fn is_lent(g: Setting, low: usize, ordinary: usize) -> bool
     ordinary == g.space
 }
 
+fn with_ordinary(s: Sender, q: Ring) -> Sender
+    ensures { λ r. ⌜ r ≡ withOrdinary s q ⌝ }
+{
+    let g = s.setting;
+    let l = s.low;
+    Sender {
+        setting: g,
+        low: l,
+        ordinary: q,
+        owed: s.owed,
+        rest: s.rest,
+    }
+}
+
+fn with_low(s: Sender, q: Ring) -> Sender
+    ensures { λ r. ⌜ r ≡ withLow s q ⌝ }
+{
+    let g = s.setting;
+    let o = s.ordinary;
+    Sender {
+        setting: g,
+        low: q,
+        ordinary: o,
+        owed: s.owed,
+        rest: s.rest,
+    }
+}
+
 // Offers an ordinary packet: its EPs are queued, or the first refusal of 1 to 4 that holds is given.
 pub fn offer_ordinary(s: Sender, low: &[u8], ordinary: &mut [u8], content: u8, sp: &[u8]) -> Answer
     requires { ⌜ Sound s ⌝ }
@@ -100,24 +130,11 @@ pub fn offer_ordinary(s: Sender, low: &[u8], ordinary: &mut [u8], content: u8, s
     if !is_lent(g, low.len(), ordinary.len()) {
         return Answer::Refused(Refusal::Limits);
     }
-    if !checks::is_known(content) {
-        return Answer::Refused(Refusal::Content);
-    }
-    if 131072 < sp.len() {
-        return Answer::Refused(Refusal::Long);
-    }
-    if g.space - q.len < eps::needed(content, sp, g.piece) {
-        return Answer::Refused(Refusal::Full);
+    if let Check::No(k) = checks::judged(content, sp, 131072, g.piece, g.space - q.len) {
+        return Answer::Refused(k);
     }
     let t = eps::put_sp(ordinary, q, content, sp, g.piece);
-    let l = s.low;
-    Answer::Done(Sender {
-        setting: g,
-        low: l,
-        ordinary: t,
-        owed: s.owed,
-        rest: s.rest,
-    })
+    Answer::Done(with_ordinary(s, t))
 }
 
 // Offers a low-latency packet: one EP is queued, or the first refusal of 1 to 4 that holds is given.
@@ -131,24 +148,13 @@ pub fn offer_low(s: Sender, low: &mut [u8], ordinary: &[u8], content: u8, sp: &[
     if !is_lent(g, low.len(), ordinary.len()) {
         return Answer::Refused(Refusal::Limits);
     }
-    if !checks::is_known(content) {
-        return Answer::Refused(Refusal::Content);
+    // in pieces of 65,535 it is one EP
+    if let Check::No(k) = checks::judged(content, sp, g.payload - 7, 65535, g.lowspace - q.len) {
+        return Answer::Refused(k);
     }
-    if g.payload - 7 < sp.len() {
-        return Answer::Refused(Refusal::Long);
-    }
-    if g.lowspace - q.len < 6 + sp.len() {
-        return Answer::Refused(Refusal::Full);
-    }
-    let t = eps::put_ep(low, q, content, 0, sp);
-    let o = s.ordinary;
-    Answer::Done(Sender {
-        setting: g,
-        low: t,
-        ordinary: o,
-        owed: s.owed,
-        rest: s.rest,
-    })
+    let h = wire::header_of(content, 0, sp.len() as u16);
+    let t = eps::put_ep(low, q, h, sp);
+    Answer::Done(with_low(s, t))
 }
 
 // Fills a TP. The header comes last, since what is behind it says what it says.

@@ -29,6 +29,9 @@ fn fill_part(dst: &mut [u8], at: usize)
     ensures { λ _. ⌜ now (dst .exit) ≡ take at (now (dst .entry)) ++ take (length (now (dst .entry)) - at) (fill (length (now (dst .entry)) - at)) ⌝ }
 {
     let m = dst.len() - at;
+    if m == 0 {
+        return;
+    }
     let k = least(6, m);
     let h = wire::header_of(0, 0, (m - k) as u16);
     queue::copy_at(dst, at, &h[0..k]);

@@ -1,39 +1,19 @@
 // Headers read from queued bytes, without repair.
 ghost use mathlib.Core.Path.{_≡_};
-ghost use Prim.Native.Nat.{_+_, _*_, _≤_, _<_, min};
+ghost use Prim.Native.Nat.{_+_, _≤_, _<_, min};
 ghost use lib.ListN.{drop};
-ghost use Rattle.digits.specs.Digits.{number};
 ghost use Rattle.queue.specs.Ring.{held, Kept};
 ghost use Rattle.sender.specs.Drawing.{headAt, sizeIn, contentIn, lowIn, lowAt, overwritten, span};
-ghost use Rattle.sender.specs.Steps.{wordAt};
 use queue::Ring;
-
-// Three bytes as a number.
-fn three(x: u8, y: u8, z: u8) -> u64
-    ensures { λ r. ⌜ (r ≡ x * 65536 + y * 256 + z) × (r < 16777216) ⌝ }
-{
-    x as u64 * 65536 + y as u64 * 256 + z as u64
-}
-
-fn word_at(buf: &[u8], q: Ring, i: usize) -> u64
-    requires { ⌜ i < 2097152 ⌝ }
-    ensures { λ r. ⌜ (r ≡ wordAt (held (now (buf .entry)) q) i) × (r < 16777216) ⌝ }
-{
-    let x = queue::byte_at(buf, q, i);
-    let y = queue::byte_at(buf, q, i + 1);
-    let z = queue::byte_at(buf, q, i + 2);
-    three(x, y, z)
-}
 
 // The header at place i of what the ring holds.
 fn head_at(buf: &[u8], q: Ring, i: usize) -> u64
     requires { ⌜ Kept (now buf) q ⌝ }
-    requires { ⌜ (i + 6 ≤ q .len) × (q .len ≤ 1048576) ⌝ }
+    requires { ⌜ i + 6 ≤ q .len ⌝ }
     ensures { λ r. ⌜ r ≡ headAt (drop i (held (now (buf .entry)) q)) ⌝ }
 {
-    let x = word_at(buf, q, i);
-    let y = word_at(buf, q, i + 3);
-    x * 16777216 + y
+    let b = queue::six_at(buf, q, i);
+    digits::from_six(b[0], b[1], b[2], b[3], b[4], b[5])
 }
 
 fn size_in(h: u64) -> usize
@@ -46,12 +26,6 @@ fn content_in(h: u64) -> u8
     ensures { λ r. ⌜ r ≡ contentIn h ⌝ }
 {
     (h / 4398046511104 % 16) as u8
-}
-
-fn number_of(b: [u8; 6]) -> u64
-    ensures { λ r. ⌜ r ≡ number 0 b ⌝ }
-{
-    three(b[0], b[1], b[2]) * 16777216 + three(b[3], b[4], b[5])
 }
 
 // The bytes of the EP with header h at the head of n queued bytes, if it could have been accepted; otherwise 0.
@@ -69,7 +43,8 @@ fn low_in(payload: usize, n: usize, h: u64) -> usize
     if !crate::checks::is_known(content) {
         return 0;
     }
-    if number_of(wire::header_of(content, 0, size as u16)) != h {
+    let b = wire::header_of(content, 0, size as u16);
+    if digits::from_six(b[0], b[1], b[2], b[3], b[4], b[5]) != h {
         return 0;
     }
     6 + size

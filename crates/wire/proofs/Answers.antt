@@ -1,13 +1,18 @@
 -- What the decoder's answers make of a header's words.
 -- Assumes nothing.
 use mathlib.Core.Path.{_≡_, refl, sym, ap, _∙_}
+use mathlib.Core.Bool.{true}
 use mathlib.Core.Option.{Option, none, some}
-use lib.Dec.{leb}
+use lib.Dec.{eqb, leb}
+use borrow.Author.Tests.{eqb-true}
 use Prim.Native.Nat.{ℕ, _+_, _*_, _/_, _%_, _^_}
 use Rattle.golay.specs.declared.Decoded.{Decoded}
 use Rattle.golay.specs.declared.Decoded.the-variants.{Word, Beyond}
+use Rattle.golay.specs.Golay.{high, syndrome}
 use Rattle.golay.specs.Answers.{Decodes, reading}
+use Rattle.golay.proofs.Decoder.{intact}
 use Rattle.golay.proofs.Theorems.{is-reading}
+use Rattle.wire.specs.declared.Header.{Header}
 use Rattle.wire.specs.declared.Read as R
 use Rattle.wire.specs.declared.TpWord as W
 use Rattle.wire.specs.Reading.{numberOf, headerFrom, headerIn, readOf, tpNumberIn, tpWordOf}
@@ -28,9 +33,8 @@ module _ (bytes : ℕ) (x : Decoded) (dx : Decodes (bytes / 2 ^ 24 % 2 ^ 24) x) 
     pub second-beyond : y ≡ Beyond → R.the-variants.Beyond ≡ readOf (headerIn bytes)
     second-beyond e = rw (from-both, e)
 
-    pub both-whole : (b j : ℕ) → y ≡ Word b j
-        → R.the-variants.Whole (record { content = a / 64 % 16; fragment = a / 16 % 4; size = a % 16 * 4096 + b }) ≡ readOf (headerIn bytes)
-    both-whole b j e = rw (from-both, e)
+    pub both-whole : (b j : ℕ) → y ≡ Word b j → (h : Header) → some h ≡ headerFrom (some a) (some b) → R.the-variants.Whole h ≡ readOf (headerIn bytes)
+    both-whole b j e h f = ap readOf f ∙ sym (ap readOf (rw e at from-both))
 
 module _ (bytes : ℕ) (x : Decoded) (d : Decodes bytes x) where
   pub word-beyond : x ≡ Beyond → W.the-variants.Beyond ≡ tpWordOf (tpNumberIn bytes)
@@ -40,3 +44,11 @@ module _ (bytes : ℕ) (x : Decoded) (d : Decodes bytes x) where
   pub word-says : (n i : ℕ) → x ≡ Word n i → W.the-variants.Says (leb 2048 n) (n % 2048) ≡ tpWordOf (tpNumberIn bytes)
   unfolding tpNumberIn
   word-says n i e = rw (number-is bytes x d, e)
+
+-- two intact words
+pub both-intact : (bytes : ℕ) (h : Header) → eqb (syndrome (bytes / 2 ^ 24 % 2 ^ 24)) 0 ≡ true → eqb (syndrome (bytes % 2 ^ 24)) 0 ≡ true
+    → some h ≡ headerFrom (some (high (bytes / 2 ^ 24 % 2 ^ 24))) (some (high (bytes % 2 ^ 24))) → R.the-variants.Whole h ≡ readOf (headerIn bytes)
+both-intact bytes h e f is =
+    let a = bytes / 2 ^ 24 % 2 ^ 24 in
+    let b = bytes % 2 ^ 24 in
+    both-whole bytes (Word (high a) 0) (intact a (eqb-true (syndrome a) 0 e)) (Word (high b) 0) (intact b (eqb-true (syndrome b) 0 f)) (high a) 0 refl (high b) 0 refl h is

@@ -1,7 +1,8 @@
 // EP header and TP header: numbers to bytes, and back from any maker's bytes.
 ghost use mathlib.Core.Path.{_≡_};
+ghost use mathlib.Core.Option.{some};
 ghost use Rattle.wire.specs.Wire.{word, header, offsetNumber, tpHeader};
-ghost use Rattle.wire.specs.Reading.{headerIn, readOf, tpNumberIn, tpWordOf, sortOf};
+ghost use Rattle.wire.specs.Reading.{headerFrom, headerIn, readOf, tpNumberIn, tpWordOf, sortOf};
 use golay::Decoded;
 
 pub struct Header {
@@ -38,8 +39,12 @@ fn word_of(n: u16) -> [u8; 3]
 pub fn header_of(content: u8, fragment: u8, size: u16) -> [u8; 6]
     ensures { λ r. ⌜ r ≡ header content fragment size ⌝ }
 {
-    let a = word_of((content % 16) as u16 * 64 + (fragment % 4) as u16 * 16 + size / 4096 % 16);
-    let b = word_of(size % 4096);
+    let pair = golay::pair::encode_pair(
+        (content % 16) as u16 * 64 + (fragment % 4) as u16 * 16 + size / 4096 % 16,
+        size % 4096,
+    );
+    let a = digits::three_of(pair.first);
+    let b = digits::three_of(pair.second);
     [a[0], a[1], a[2], b[0], b[1], b[2]]
 }
 
@@ -60,8 +65,17 @@ pub fn tp_header_of(stream: u8, low: bool, offset: u16) -> [u8; 4]
     [stream % 16 * 16, w[0], w[1], w[2]]
 }
 
-// The EP header that six bytes, as a number, hold.
-pub fn read_header(bytes: u64) -> Read
+fn header_from(a: u16, b: u16) -> Header
+    ensures { λ r. ⌜ some r ≡ headerFrom (some a) (some b) ⌝ }
+{
+    Header {
+        content: (a / 64 % 16) as u8,
+        fragment: (a / 16 % 4) as u8,
+        size: (a % 16) as usize * 4096 + b as usize,
+    }
+}
+
+fn decoded(bytes: u64) -> Read
     ensures { λ r. ⌜ r ≡ readOf (headerIn bytes) ⌝ }
 {
     let Decoded::Word {
@@ -78,11 +92,22 @@ pub fn read_header(bytes: u64) -> Read
     else {
         return Read::Beyond;
     };
-    Read::Whole(Header {
-        content: (a / 64 % 16) as u8,
-        fragment: (a / 16 % 4) as u8,
-        size: (a % 16) as usize * 4096 + b as usize,
-    })
+    Read::Whole(header_from(a, b))
+}
+
+// The EP header that six bytes, as a number, hold. Two intact words leave at once.
+pub fn read_header(bytes: u64) -> Read
+    ensures { λ r. ⌜ r ≡ readOf (headerIn bytes) ⌝ }
+{
+    let a = (bytes / 0x100_0000 % 0x100_0000) as u32;
+    let b = (bytes % 0x100_0000) as u32;
+    if golay::is_intact(a) {
+        if golay::is_intact(b) {
+            let h = header_from((a / 4096 % 4096) as u16, (b / 4096 % 4096) as u16);
+            return Read::Whole(h);
+        }
+    }
+    decoded(bytes)
 }
 
 // The low-latency flag and the offset that three bytes, as a number, hold.

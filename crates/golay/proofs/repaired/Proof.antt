@@ -1,35 +1,48 @@
--- `golay::repaired` meets its contract: the entry at the word's syndrome says what to flip, and the count is the distance itself.
+-- `golay::repaired` meets its contract: each number tried is right if its code word is near enough, and the table knows the rest.
 -- Assumes nothing.
 use native.Mathlib.Omega.{arith}
 use borrow.Author.Needs.{needs}
-use Rattle.golay.specs.Golay.{syndrome}
-use Rattle.golay.specs.Answers.{Corrects, Decodes}
-use Rattle.golay.proofs.Decoder.{syndrome-lt, far, repairs}
+use Rattle.golay.proofs.Decoder.{half-lt, turned-lt, tried}
 use Rattle.golay.proofs.repaired.Statement.{statement}
 use Rattle.golay.proofs.repaired.Tie as tie
 
-correction-requires : tie.Need-correction-requires
-correction-requires c κs = rw (c .pre .1) (syndrome-lt (c .args .w))
+flips-to-requires : tie.Need-flips-to-requires
+flips-to-requires c κs = search needs
 
--- the table's entry is the one for the word's syndrome
-entry : (c : tie.After-correction) → Corrects (syndrome (c .before .args .w)) (c .correction .result)
-entry c = rw (c .before .pre .1) at (c .correction .ensures)
+cast-t8 : tie.Need-cast-t8
+cast-t8 c = omega (arith, c .if1 .taken)
 
 returns : tie.Need-returns
-unfolding Decodes
-returns c = far (c .before .before .args .w) (c .before .correction .result) (entry (c .before)) (c .if1 .taken)
+returns c =
+    let a = c .before .before in
+    tried (a .args .w) (a .args .number) (c .before .flips-to .result) (half-lt (a .args .w) (a .args .number) (a .pre .0)) (c .before .flips-to .ensures) (c .if1 .taken)
 
-encode-requires : tie.Need-encode-requires
-encode-requires c κs = search needs
+flips-to-requires-2 : tie.Need-flips-to-requires-2
+flips-to-requires-2 c κs = search needs
+
+cast-t9 : tie.Need-cast-t9
+cast-t9 c = omega (arith, c .if2 .taken)
 
 returns-2 : tie.Need-returns-2
 returns-2 c =
-    let a = c .before .before .before in
-    repairs (a .args .w) (a .args .number) (c .before .before .correction .result) (c .encode .result) (a .pre .0) (entry (c .before .before)) (c .before .if1 .left) (c .encode .ensures)
+    let a = c .before .before .before .before in
+    tried (a .args .w) _ (c .before .flips-to2 .result) (turned-lt (a .args .w) (a .args .number) (a .args .s) (a .pre .0) (a .pre .1)) (c .before .flips-to2 .ensures) (c .if2 .taken)
 
-cast-t11 : tie.Need-cast-t11
-unfolding Decodes
-cast-t11 c = omega (arith, returns-2 c .2)
+looked-up-requires : tie.Need-looked-up-requires
+looked-up-requires c κs = search needs
+
+returns-3 : tie.Need-returns-3
+returns-3 c = search needs
 
 pub repaired-spec : {M : Type 1} → statement M
-repaired-spec = tie.close (tie.spec correction-requires returns encode-requires cast-t11 returns-2)
+repaired-spec =
+    tie.close
+    (tie.spec
+    flips-to-requires
+    cast-t8
+    returns
+    flips-to-requires-2
+    cast-t9
+    returns-2
+    looked-up-requires
+    returns-3)

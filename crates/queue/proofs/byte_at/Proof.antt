@@ -1,16 +1,14 @@
--- `queue::byte_at` meets its contract: not held, in the first run, past the buffer's end, or not there. Assumes nothing.
+-- `queue::byte_at` meets its contract: before the buffer's end, or past it. Assumes nothing.
 use Prim.Native.Nat.{_-_}
 use native.Mathlib.Omega.{arith}
-use Rattle.queue.proofs.Takes.{byte-none, byte-first, byte-past, byte-beyond}
+use lib.ListN.{length}
+use Rattle.queue.proofs.Takes.{byte-first, byte-past}
 use borrow.Author.Needs.{needs}
 use Rattle.queue.proofs.byte_at.Statement.{statement}
 use Rattle.queue.proofs.byte_at.Tie as tie
 
-returns : tie.Need-returns
-returns c = let a = c .before .before .before .args in byte-none (a .buf .now) (a .q) (a .i) (c .if1 .taken)
-
-clamped-requires : tie.Need-clamped-requires
-clamped-requires c κs = search needs
+sub-first : tie.Need-sub-first
+sub-first c = search needs
 
 add-at : tie.Need-add-at
 add-at c = search needs
@@ -18,31 +16,28 @@ add-at c = search needs
 shared-slice-read-result : tie.Need-shared-slice-read-result
 shared-slice-read-result c = search needs
 
-returns-2 : tie.Need-returns-2
-returns-2 c = let a = c .before .before .before .before .before .before .before .args in byte-first (a .buf .now) (a .q) (a .i) (omega arith) (omega arith)
-
-clamped-requires-2 : tie.Need-clamped-requires-2
-clamped-requires-2 c κs = search needs
-
-returns-3 : tie.Need-returns-3
-returns-3 c = let a = c .before .before .before .before .before .before .before .args in byte-beyond (a .buf .now) (a .q) (a .i) (omega arith) (a .i - c .before .before .before .clamped .result) (omega arith) (omega arith)
+returns : tie.Need-returns
+returns c = let s = c .before .before .before .before in byte-first (s .args .buf .now) (s .args .q) (s .args .i) (s .pre .1) (c .before .before .if1 .taken)
 
 shared-slice-read-result-2 : tie.Need-shared-slice-read-result-2
 shared-slice-read-result-2 c = search needs
 
-returns-4 : tie.Need-returns-4
-returns-4 c = let a = c .before .before .before .before .before .before .before .before .args in byte-past (a .buf .now) (a .q) (a .i) (omega arith) (a .i - c .before .before .before .before .clamped .result) (omega arith) (omega arith)
+returns-2 : tie.Need-returns-2
+returns-2 c =
+    let s = c .before .before .before in
+    let a = s .args in
+    let h = s .pre .0 .head in
+    let l = s .pre .0 .len in
+    let p = s .pre .1 in
+    byte-past (a .buf .now) (a .q) (a .i) p (a .i - (length (a .buf .now) - a .q .head)) (omega arith) (omega arith)
 
 pub byte-at-spec : {M : Type 1} → statement M
 byte-at-spec =
     tie.close
     (tie.spec
-    returns
-    clamped-requires
+    sub-first
     add-at
     shared-slice-read-result
-    returns-2
-    clamped-requires-2
-    returns-3
+    returns
     shared-slice-read-result-2
-    returns-4)
+    returns-2)

@@ -1,8 +1,14 @@
--- `sender::offer_low` meets its contract: each refusal in its order, or one EP put. Assumes nothing.
-use mathlib.Core.Path.{sym, _∙_}
+-- `sender::offer_low` meets its contract: another buffer, a refusal of the checks, or one EP put. Assumes nothing.
+use mathlib.Core.Path.{refl, sym, ap, subst, _∙_}
+use Prim.Native.Nat.{_-_}
 use native.Mathlib.Omega.{arith}
+use lib.ListN.{length}
 use borrow.Author.Tests.{not-true, not-false}
-use Rattle.sender.proofs.Offers.{lent-low, low-1, low-2, low-3, low-4, low-put, low-sound}
+use Rattle.wire.proofs.Laws.{ep-length}
+use Rattle.sender.specs.Opening.{Sound}
+use Rattle.sender.proofs.Puts.{put-as}
+use Rattle.sender.proofs.Pieces.{one-piece}
+use Rattle.sender.proofs.Offers.{lent-low, fine-is, low-1, low-no, low-put, low-sound}
 use borrow.Author.Needs.{needs}
 use Rattle.sender.proofs.offer_low.Statement.{statement}
 use Rattle.sender.proofs.offer_low.Tie as tie
@@ -15,51 +21,73 @@ returns c =
     let a = c .before .before .before .before .before .before .before .args in
     (low-1 (a .s) (a .low .now) (a .ordinary .now) (a .content) (a .sp .now) (sym (c .before .is-lent .ensures) ∙ not-true (c .before .is-lent .result) (c .if1 .taken)), tt)
 
-is-known-requires : tie.Need-is-known-requires
-is-known-requires c κs = search needs
+sub-judged : tie.Need-sub-judged
+sub-judged c = search needs
+
+sub-judged-2 : tie.Need-sub-judged-2
+sub-judged-2 c = search needs
+
+judged-requires : tie.Need-judged-requires
+judged-requires c κs = search needs
+
+enum-known-k : tie.Need-enum-known-k
+enum-known-k c = search needs
 
 returns-2 : tie.Need-returns-2
 returns-2 c =
-    let a = c .before .before .before .before .before .before .before .before .before .args in
-    (low-2 (a .s) (a .low .now) (a .ordinary .now) (a .content) (a .sp .now) (sym (c .before .before .before .is-lent .ensures) ∙ not-false (c .before .before .before .is-lent .result) (c .before .before .if1 .left)) (sym (c .before .is-known .ensures) ∙ not-true (c .before .is-known .result) (c .if2 .taken)), tt)
-
-sub-if3 : tie.Need-sub-if3
-sub-if3 c = search needs
-
-returns-3 : tie.Need-returns-3
-returns-3 c =
-    let a = c .before .before .before .before .before .before .before .before .before .before .before .args in
-    (low-3 (a .s) (a .low .now) (a .ordinary .now) (a .content) (a .sp .now) (sym (c .before .before .before .before .before .is-lent .ensures) ∙ not-false (c .before .before .before .before .before .is-lent .result) (c .before .before .before .before .if1 .left)) (sym (c .before .before .before .is-known .ensures) ∙ not-false (c .before .before .before .is-known .result) (c .before .before .if2 .left)) (omega arith), tt)
-
-sub-if4 : tie.Need-sub-if4
-sub-if4 c = search needs
-
-add-if4 : tie.Need-add-if4
-add-if4 c = search needs
-
-returns-4 : tie.Need-returns-4
-returns-4 c =
     let a = c .before .before .before .before .before .before .before .before .before .before .before .before .before .before .args in
-    (low-4 (a .s) (a .low .now) (a .ordinary .now) (a .content) (a .sp .now) (sym (c .before .before .before .before .before .before .before .before .is-lent .ensures) ∙ not-false (c .before .before .before .before .before .before .before .before .is-lent .result) (c .before .before .before .before .before .before .before .if1 .left)) (sym (c .before .before .before .before .before .before .is-known .ensures) ∙ not-false (c .before .before .before .before .before .before .is-known .result) (c .before .before .before .before .before .if2 .left)) (omega arith) (omega arith), tt)
+    let w = c .before .before .before .before .before .before .before .before .before .before .before .before .before .before .pre in
+    let p = w .payload-least in
+    (low-no (a .s) (a .low .now) (a .ordinary .now) (a .content) (a .sp .now) (sym (c .before .before .before .before .before .before .before .before .is-lent .ensures) ∙ not-false (c .before .before .before .before .before .before .before .before .is-lent .result) (c .before .before .before .before .before .before .before .if1 .left)) _ (omega arith) (w .payload-most) (sym (c .before .before .before .judged .ensures) ∙ c .before .k .given .1), tt)
+
+enum-told : tie.Need-enum-told
+enum-told c = search needs
+
+cast-header-of : tie.Need-cast-header-of
+cast-header-of c =
+    let a = c .before .before .before .before .before .before .before .before .before .before .before .before .before .args in
+    let w = c .before .before .before .before .before .before .before .before .before .before .before .before .before .pre in
+    let f = fine-is (a .content) (a .sp .now) (a .s .setting .payload - 7) 65535 (a .s .setting .lowspace - a .s .low .len) (sym (c .before .before .judged .ensures) ∙ c .enum-told .given .1) in
+    let wq = w .payload-most in
+    let m = f .1 .0 in
+    omega arith
+
+header-of-requires : tie.Need-header-of-requires
+header-of-requires c κs = search needs
 
 put-ep-requires : tie.Need-put-ep-requires
 put-ep-requires c κs =
+    let a = c .before .before .before .before .before .before .before .before .before .before .before .before .before .before .before .args in
     let w = c .before .before .before .before .before .before .before .before .before .before .before .before .before .before .before .pre in
     let e = lent-low _ _ _ (sym (c .before .before .before .before .before .before .before .before .before .is-lent .ensures) ∙ not-false (c .before .before .before .before .before .before .before .before .before .is-lent .result) (c .before .before .before .before .before .before .before .before .if1 .left)) in
+    let f = fine-is (a .content) (a .sp .now) (a .s .setting .payload - 7) 65535 (a .s .setting .lowspace - a .s .low .len) (sym (c .before .before .before .before .judged .ensures) ∙ c .before .before .enum-told .given .1) in
+    let wp = w .payload-least in
+    let wq = w .payload-most in
+    let m = f .1 .0 in
+    let n = f .1 .1 in
+    let o = ap length (one-piece 65535 (a .content) (a .sp .now) (omega arith)) ∙ ep-length (a .content) 0 (a .sp .now) in
     let wh = w .low-head in
     let wl = w .low-len in
-    let wp = w .payload-most in
-    (record { head = omega arith; len = omega arith }, (omega arith, omega arith))
+    (record { head = omega arith; len = omega arith }, omega arith)
+
+with-low-requires : tie.Need-with-low-requires
+with-low-requires c κs = search needs
 
 same-length : tie.Need-same-length
 same-length c = search needs
 
-returns-5 : tie.Need-returns-5
-returns-5 c =
-    let s = c .before .before .before .before .before .before .before .before .before .before .before .before .before .before .before .before .before .before .before in
-    let a = s .args in
-    let u = c .before .before .before .put-ep .ensures in
-    (low-put (a .s) (a .low .now) (a .ordinary .now) (a .content) (a .sp .now) (sym (c .before .before .before .before .before .before .before .before .before .before .before .before .before .is-lent .ensures) ∙ not-false (c .before .before .before .before .before .before .before .before .before .before .before .before .before .is-lent .result) (c .before .before .before .before .before .before .before .before .before .before .before .before .if1 .left)) (sym (c .before .before .before .before .before .before .before .before .before .before .before .is-known .ensures) ∙ not-false (c .before .before .before .before .before .before .before .before .before .before .before .is-known .result) (c .before .before .before .before .before .before .before .before .before .before .if2 .left)) (omega arith) _ _ (omega arith) u, low-sound (a .s) (a .low .now) (a .ordinary .now) (a .content) (a .sp .now) _ _ (s .pre) (omega arith) u)
+returns-3 : tie.Need-returns-3
+returns-3 c =
+    let a = c .before .before .before .before .before .before .before .before .before .before .before .before .before .before .before .before .before .before .before .args in
+    let w = c .before .before .before .before .before .before .before .before .before .before .before .before .before .before .before .before .before .before .before .pre in
+    let f = fine-is (a .content) (a .sp .now) (a .s .setting .payload - 7) 65535 (a .s .setting .lowspace - a .s .low .len) (sym (c .before .before .before .before .before .before .before .before .judged .ensures) ∙ c .before .before .before .before .before .before .enum-told .given .1) in
+    let wp = w .payload-least in
+    let wq = w .payload-most in
+    let m = f .1 .0 in
+    let n = f .1 .1 in
+    let o = ap length (one-piece 65535 (a .content) (a .sp .now) (omega arith)) ∙ ep-length (a .content) 0 (a .sp .now) in
+    let u = put-as (a .low .now) (a .s .low) (a .content) 0 (length (a .sp .now)) _ _ _ (c .before .before .before .before .before .header-of .ensures) refl (c .before .before .before .put-ep .ensures) in
+    (low-put (a .s) (a .low .now) (a .ordinary .now) (a .content) (a .sp .now) (sym (c .before .before .before .before .before .before .before .before .before .before .before .before .before .is-lent .ensures) ∙ not-false (c .before .before .before .before .before .before .before .before .before .before .before .before .before .is-lent .result) (c .before .before .before .before .before .before .before .before .before .before .before .before .if1 .left)) _ _ _ (c .with-low .ensures) (f .0) (omega arith) (omega arith) u, subst Sound (sym (c .with-low .ensures)) (low-sound (a .s) (a .low .now) (a .ordinary .now) (a .content) (a .sp .now) _ _ w (omega arith) u))
 
 pub offer-low-spec : {M : Type 1} → statement M
 offer-low-spec =
@@ -67,13 +95,15 @@ offer-low-spec =
     (tie.spec
     is-lent-requires
     returns
-    is-known-requires
+    sub-judged
+    sub-judged-2
+    judged-requires
+    enum-known-k
     returns-2
-    sub-if3
-    returns-3
-    sub-if4
-    add-if4
-    returns-4
+    enum-told
+    cast-header-of
+    header-of-requires
     put-ep-requires
+    with-low-requires
     same-length
-    returns-5)
+    returns-3)

@@ -1,8 +1,10 @@
--- `sender::offer_ordinary` meets its contract: each refusal in its order, or the pieces put. Assumes nothing.
-use mathlib.Core.Path.{sym, _∙_}
+-- `sender::offer_ordinary` meets its contract: another buffer, a refusal of the checks, or the pieces put. Assumes nothing.
+use mathlib.Core.Path.{sym, subst, _∙_}
+use Prim.Native.Nat.{_-_}
 use native.Mathlib.Omega.{arith}
 use borrow.Author.Tests.{not-true, not-false}
-use Rattle.sender.proofs.Offers.{lent-ordinary, ordinary-1, ordinary-2, ordinary-3, ordinary-4, ordinary-put, ordinary-sound}
+use Rattle.sender.specs.Opening.{Sound}
+use Rattle.sender.proofs.Offers.{lent-ordinary, fine-is, ordinary-1, ordinary-no, ordinary-put, ordinary-sound}
 use borrow.Author.Needs.{needs}
 use Rattle.sender.proofs.offer_ordinary.Statement.{statement}
 use Rattle.sender.proofs.offer_ordinary.Tie as tie
@@ -15,48 +17,46 @@ returns c =
     let a = c .before .before .before .before .before .before .before .args in
     (ordinary-1 (a .s) (a .low .now) (a .ordinary .now) (a .content) (a .sp .now) (sym (c .before .is-lent .ensures) ∙ not-true (c .before .is-lent .result) (c .if1 .taken)), tt)
 
-is-known-requires : tie.Need-is-known-requires
-is-known-requires c κs = search needs
+sub-judged : tie.Need-sub-judged
+sub-judged c = search needs
+
+judged-requires : tie.Need-judged-requires
+judged-requires c κs = search needs
+
+enum-known-k : tie.Need-enum-known-k
+enum-known-k c = search needs
 
 returns-2 : tie.Need-returns-2
 returns-2 c =
-    let a = c .before .before .before .before .before .before .before .before .before .args in
-    (ordinary-2 (a .s) (a .low .now) (a .ordinary .now) (a .content) (a .sp .now) (sym (c .before .before .before .is-lent .ensures) ∙ not-false (c .before .before .before .is-lent .result) (c .before .before .if1 .left)) (sym (c .before .is-known .ensures) ∙ not-true (c .before .is-known .result) (c .if2 .taken)), tt)
+    let a = c .before .before .before .before .before .before .before .before .before .before .before .before .before .args in
+    (ordinary-no (a .s) (a .low .now) (a .ordinary .now) (a .content) (a .sp .now) (sym (c .before .before .before .before .before .before .before .is-lent .ensures) ∙ not-false (c .before .before .before .before .before .before .before .is-lent .result) (c .before .before .before .before .before .before .if1 .left)) _ (sym (c .before .before .before .judged .ensures) ∙ c .before .k .given .1), tt)
 
-returns-3 : tie.Need-returns-3
-returns-3 c =
-    let a = c .before .before .before .before .before .before .before .before .before .before .args in
-    (ordinary-3 (a .s) (a .low .now) (a .ordinary .now) (a .content) (a .sp .now) (sym (c .before .before .before .before .is-lent .ensures) ∙ not-false (c .before .before .before .before .is-lent .result) (c .before .before .before .if1 .left)) (sym (c .before .before .is-known .ensures) ∙ not-false (c .before .before .is-known .result) (c .before .if2 .left)) (c .if3 .taken), tt)
-
-sub-if4 : tie.Need-sub-if4
-sub-if4 c = search needs
-
-needed-requires : tie.Need-needed-requires
-needed-requires c κs = search needs
-
-returns-4 : tie.Need-returns-4
-returns-4 c =
-    let a = c .before .before .before .before .before .before .before .before .before .before .before .before .before .before .args in
-    (ordinary-4 (a .s) (a .low .now) (a .ordinary .now) (a .content) (a .sp .now) (sym (c .before .before .before .before .before .before .before .before .is-lent .ensures) ∙ not-false (c .before .before .before .before .before .before .before .before .is-lent .result) (c .before .before .before .before .before .before .before .if1 .left)) (sym (c .before .before .before .before .before .before .is-known .ensures) ∙ not-false (c .before .before .before .before .before .before .is-known .result) (c .before .before .before .before .before .if2 .left)) (c .before .before .before .before .if3 .left) (rw (← c .before .needed .ensures) (c .if4 .taken)), tt)
+enum-told : tie.Need-enum-told
+enum-told c = search needs
 
 put-sp-requires : tie.Need-put-sp-requires
 put-sp-requires c κs =
-    let w = c .before .before .before .before .before .before .before .before .before .before .before .before .before .before .before .pre in
-    let e = lent-ordinary _ _ _ (sym (c .before .before .before .before .before .before .before .before .before .is-lent .ensures) ∙ not-false (c .before .before .before .before .before .before .before .before .before .is-lent .result) (c .before .before .before .before .before .before .before .before .if1 .left)) in
+    let a = c .before .before .before .before .before .before .before .before .before .before .before .before .before .args in
+    let w = c .before .before .before .before .before .before .before .before .before .before .before .before .before .pre in
+    let e = lent-ordinary _ _ _ (sym (c .before .before .before .before .before .before .before .is-lent .ensures) ∙ not-false (c .before .before .before .before .before .before .before .is-lent .result) (c .before .before .before .before .before .before .if1 .left)) in
+    let f = fine-is (a .content) (a .sp .now) 131072 (a .s .setting .piece) (a .s .setting .space - a .s .ordinary .len) (sym (c .before .before .before .judged .ensures) ∙ c .before .enum-told .given .1) in
     let wh = w .head in
     let wl = w .len in
-    let n = c .before .before .needed .ensures in
-    (record { head = omega arith; len = omega arith }, ((w .piece-least, w .piece-most), omega (arith, n)))
+    let n = f .1 .1 in
+    (record { head = omega arith; len = omega arith }, ((w .piece-least, w .piece-most), omega arith))
+
+with-ordinary-requires : tie.Need-with-ordinary-requires
+with-ordinary-requires c κs = search needs
 
 same-length : tie.Need-same-length
 same-length c = search needs
 
-returns-5 : tie.Need-returns-5
-returns-5 c =
-    let s = c .before .before .before .before .before .before .before .before .before .before .before .before .before .before .before .before .before .before .before in
-    let a = s .args in
+returns-3 : tie.Need-returns-3
+returns-3 c =
+    let a = c .before .before .before .before .before .before .before .before .before .before .before .before .before .before .before .before .before .args in
+    let f = fine-is (a .content) (a .sp .now) 131072 (a .s .setting .piece) (a .s .setting .space - a .s .ordinary .len) (sym (c .before .before .before .before .before .before .before .judged .ensures) ∙ c .before .before .before .before .before .enum-told .given .1) in
     let u = c .before .before .before .put-sp .ensures in
-    (ordinary-put (a .s) (a .low .now) (a .ordinary .now) (a .content) (a .sp .now) (sym (c .before .before .before .before .before .before .before .before .before .before .before .before .before .is-lent .ensures) ∙ not-false (c .before .before .before .before .before .before .before .before .before .before .before .before .before .is-lent .result) (c .before .before .before .before .before .before .before .before .before .before .before .before .if1 .left)) (sym (c .before .before .before .before .before .before .before .before .before .before .before .is-known .ensures) ∙ not-false (c .before .before .before .before .before .before .before .before .before .before .before .is-known .result) (c .before .before .before .before .before .before .before .before .before .before .if2 .left)) (c .before .before .before .before .before .before .before .before .before .if3 .left) _ _ (rw (← c .before .before .before .before .before .before .needed .ensures) (c .before .before .before .before .before .if4 .left)) u, ordinary-sound (a .s) (a .low .now) (a .ordinary .now) (a .content) (a .sp .now) _ _ (s .pre) (rw (← c .before .before .before .before .before .before .needed .ensures) (c .before .before .before .before .before .if4 .left)) u)
+    (ordinary-put (a .s) (a .low .now) (a .ordinary .now) (a .content) (a .sp .now) (sym (c .before .before .before .before .before .before .before .before .before .before .before .is-lent .ensures) ∙ not-false (c .before .before .before .before .before .before .before .before .before .before .before .is-lent .result) (c .before .before .before .before .before .before .before .before .before .before .if1 .left)) _ _ _ (c .with-ordinary .ensures) (f .0) (f .1 .0) (f .1 .1) u, subst Sound (sym (c .with-ordinary .ensures)) (ordinary-sound (a .s) (a .low .now) (a .ordinary .now) (a .content) (a .sp .now) _ _ (c .before .before .before .before .before .before .before .before .before .before .before .before .before .before .before .before .before .pre) (f .1 .1) u))
 
 pub offer-ordinary-spec : {M : Type 1} → statement M
 offer-ordinary-spec =
@@ -64,12 +64,12 @@ offer-ordinary-spec =
     (tie.spec
     is-lent-requires
     returns
-    is-known-requires
+    sub-judged
+    judged-requires
+    enum-known-k
     returns-2
-    returns-3
-    sub-if4
-    needed-requires
-    returns-4
+    enum-told
     put-sp-requires
+    with-ordinary-requires
     same-length
-    returns-5)
+    returns-3)

@@ -1,87 +1,58 @@
--- `wire::read_header` meets its contract: a header is whole if both its words are.
+-- `wire::read_header` meets its contract: two intact words say their numbers, and others are decoded.
 -- Assumes nothing.
-use Rattle.wire.proofs.Answers.{first-beyond, second-beyond, both-whole}
+use mathlib.Core.Path.{sym, _∙_}
+use Rattle.wire.proofs.Answers.{both-intact}
 use borrow.Author.Needs.{needs}
 use Rattle.wire.proofs.read_header.Statement.{statement}
 use Rattle.wire.proofs.read_header.Tie as tie
 
-cast-decode : tie.Need-cast-decode
-cast-decode c = search needs
+cast-a : tie.Need-cast-a
+cast-a c = search needs
 
-decode-requires : tie.Need-decode-requires
-decode-requires c κs = search needs
+cast-b : tie.Need-cast-b
+cast-b c = search needs
 
-enum-known-a : tie.Need-enum-known-a
-enum-known-a c = search needs
+is-intact-requires : tie.Need-is-intact-requires
+is-intact-requires c κs = search needs
 
-enum-told : tie.Need-enum-told
-enum-told c = search needs
+is-intact-requires-2 : tie.Need-is-intact-requires-2
+is-intact-requires-2 c κs = search needs
+
+cast-header-from : tie.Need-cast-header-from
+cast-header-from c = search needs
+
+cast-header-from-2 : tie.Need-cast-header-from-2
+cast-header-from-2 c = search needs
+
+header-from-requires : tie.Need-header-from-requires
+header-from-requires c κs = search needs
 
 returns : tie.Need-returns
-returns c = first-beyond (c .before .before .before .args .bytes) (c .before .before .decode .result) (c .before .before .decode .ensures) (c .enum-told .given .1)
+returns c =
+    let first = c .before .before .before .before .is-intact in
+    let second = c .before .before .is-intact2 in
+    both-intact (c .before .before .before .before .before .args .bytes) (c .header-from .result)
+    (sym (first .ensures) ∙ c .before .before .before .if1 .taken)
+    (sym (second .ensures) ∙ c .before .if2 .taken)
+    (c .header-from .ensures)
 
-cast-decode-2 : tie.Need-cast-decode-2
-cast-decode-2 c = search needs
-
-decode-requires-2 : tie.Need-decode-requires-2
-decode-requires-2 c κs = search needs
-
-enum-known-b : tie.Need-enum-known-b
-enum-known-b c = search needs
-
-enum-told-2 : tie.Need-enum-told-2
-enum-told-2 c = search needs
+decoded-requires : tie.Need-decoded-requires
+decoded-requires c κs = search needs
 
 returns-2 : tie.Need-returns-2
-returns-2 c =
-    let x = c .before .before .before .before .before .before .decode in
-    let a = c .before .before .before .before .a .given in
-    second-beyond (c .before .before .before .before .before .before .before .args .bytes) (x .result) (x .ensures) (c .before .before .decode2 .result) (c .before .before .decode2 .ensures) (a .0 .0) (a .0 .1 .0) (a .1) (c .enum-told2 .given .1)
-
-cast-t11 : tie.Need-cast-t11
-cast-t11 c = search needs
-
-cast-t14 : tie.Need-cast-t14
-cast-t14 c = search needs
-
-cast-t16 : tie.Need-cast-t16
-cast-t16 c = search needs
-
-mul-t17 : tie.Need-mul-t17
-mul-t17 c = search needs
-
-cast-t18 : tie.Need-cast-t18
-cast-t18 c = search needs
-
-add-t19 : tie.Need-add-t19
-add-t19 c = search needs
-
-returns-3 : tie.Need-returns-3
-returns-3 c =
-    let x = c .before .before .before .before .before .before .before .decode in
-    let y = c .before .before .before .decode2 in
-    let a = c .before .before .before .before .before .a .given in
-    let b = c .before .b .given in
-    both-whole (c .before .before .before .before .before .before .before .before .args .bytes) (x .result) (x .ensures) (y .result) (y .ensures) (a .0 .0) (a .0 .1 .0) (a .1) (b .0 .0) (b .0 .1 .0) (b .1)
+returns-2 c = search needs
 
 pub read-header-spec : {M : Type 1} → statement M
 read-header-spec =
     tie.close
     (tie.spec
-    cast-decode
-    decode-requires
-    enum-known-a
-    enum-told
+    cast-a
+    cast-b
+    is-intact-requires
+    is-intact-requires-2
+    cast-header-from
+    cast-header-from-2
+    header-from-requires
     returns
-    cast-decode-2
-    decode-requires-2
-    enum-known-b
-    enum-told-2
-    returns-2
-    cast-t11
-    cast-t14
-    cast-t16
-    mul-t17
-    cast-t18
-    add-t19
-    returns-3)
+    decoded-requires
+    returns-2)

@@ -1,8 +1,8 @@
 -- `receiver::judge::whole` meets its contract: the two answers of the header code.
 -- Assumes nothing.
 use mathlib.Core.Path.{sym, _∙_}
-use borrow.Author.Needs.{needs}
 use Rattle.wire.specs.Reading.{headerIn}
+use borrow.Author.Needs.{needs}
 use Rattle.receiver.proofs.Gather.{beyond-read, whole-read}
 use Rattle.receiver.proofs.judge.whole.Statement.{statement}
 use Rattle.receiver.proofs.judge.whole.Tie as tie
@@ -23,10 +23,14 @@ opened-requires : tie.Need-opened-requires
 opened-requires c κs = search needs
 
 returns : tie.Need-returns
-returns c = let a = c .before .before .before .before .args in c .stop .ensures ∙ beyond-read (a .at) (a .kept) (headerIn (a .word)) (sym (c .before .before .before .read-header .ensures) ∙ c .before .enum-told .given .1)
+returns c =
+    let a = c .before .before .before .before .args in
+    c .stop .ensures ∙ beyond-read (a .at) (a .kept) (a .cap) (headerIn (a .word)) (sym (c .before .before .before .read-header .ensures) ∙ c .before .enum-told .given .1)
 
 returns-2 : tie.Need-returns-2
-returns-2 c = let a = c .before .before .before .before .before .args in c .opened .ensures ∙ whole-read (a .at) (a .kept) (c .before .before .header .given .0 .0) (headerIn (a .word)) (sym (c .before .before .before .before .read-header .ensures) ∙ c .before .before .header .given .1)
+returns-2 c =
+    let a = c .before .before .before .before .before .args in
+    c .opened .ensures ∙ whole-read (a .at) (a .kept) (a .cap) (c .before .before .header .given .0 .0) (headerIn (a .word)) (sym (c .before .before .before .before .read-header .ensures) ∙ c .before .before .header .given .1)
 
 pub whole-spec : {M : Type 1} → statement M
 whole-spec =

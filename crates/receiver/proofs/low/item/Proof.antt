@@ -6,45 +6,38 @@ use Rattle.receiver.proofs.Walking.{item-beyond, item-short, item-whole
 use Rattle.receiver.proofs.low.item.Statement.{statement}
 use Rattle.receiver.proofs.low.item.Tie as tie
 
--- src/low.rt:64:8
 sub-if1 : tie.Need-sub-if1
 sub-if1 c = search needs
 
--- src/low.rt:65:9
 returns : tie.Need-returns
-returns c = item-short (c .before .before .args .tp .now) (c .before .before .args .at) (c .if1 .taken)
+returns c =
+    let a = c .before .before .args in
+    item-short (a .tp .now) (a .at) (c .if1 .taken)
 
--- src/low.rt:67:29
-gather-requires : tie.Need-gather-requires
-gather-requires c κs = search needs
+six-requires : tie.Need-six-requires
+six-requires c κs = search needs
 
--- src/low.rt:67:11
 read-header-requires : tie.Need-read-header-requires
 read-header-requires c κs = search needs
 
--- src/low.rt:68:25
 enum-told : tie.Need-enum-told
 enum-told c = search needs
 
--- src/low.rt:69:21
 enum-known-h : tie.Need-enum-known-h
 enum-known-h c = search needs
 
--- src/low.rt:69:27
 closed-requires : tie.Need-closed-requires
 closed-requires c κs = search needs
 
--- src/low.rt:60:1
 returns-2 : tie.Need-returns-2
 returns-2 c =
     let a = c .before .before .before .before .before .before .args in
-    item-beyond (a .tp .now) (a .at) (c .before .before .before .gather .result) (c .before .before .before .before .if1 .left) (c .before .before .before .gather .ensures) (sym (c .before .before .read-header .ensures) ∙ c .enum-told .given .1)
+    item-beyond (a .tp .now) (a .at) (c .before .before .before .six .result) (c .before .before .before .before .if1 .left) (c .before .before .before .six .ensures) (sym (c .before .before .read-header .ensures) ∙ c .enum-told .given .1)
 
--- src/low.rt:60:1
 returns-3 : tie.Need-returns-3
 returns-3 c =
     let a = c .before .before .before .before .before .before .before .before .args in
-    c .closed .ensures ∙ item-whole (a .tp .now) (a .at) (c .before .before .before .before .before .gather .result) _ (c .before .before .before .before .before .before .if1 .left) (c .before .before .before .before .before .gather .ensures) (sym (c .before .before .before .before .read-header .ensures) ∙ c .before .before .h .given .1)
+    c .closed .ensures ∙ item-whole (a .tp .now) (a .at) (c .before .before .before .before .before .six .result) _ (c .before .before .before .before .before .before .if1 .left) (c .before .before .before .before .before .six .ensures) (sym (c .before .before .before .before .read-header .ensures) ∙ c .before .before .h .given .1)
 
 pub item-spec : {M : Type 1} → statement M
 item-spec =
@@ -52,7 +45,7 @@ item-spec =
     (tie.spec
     sub-if1
     returns
-    gather-requires
+    six-requires
     read-header-requires
     enum-told
     enum-known-h

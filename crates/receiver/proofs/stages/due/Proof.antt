@@ -1,128 +1,68 @@
--- `receiver::stages::due` meets its contract: the three tests of the offset; 10 drops the rest.
+-- `receiver::stages::due` meets its contract: 10 drops the rest; else the ordinary bytes are set about.
 -- Assumes nothing.
-use Prim.Native.Nat.{_+_, _-_, _≤_}
+use mathlib.Core.Path.{sym, _∙_}
+use Prim.Native.Nat.{_≤_}
 use native.Mathlib.Omega.{arith}
 use lib.ListN.{length}
 use borrow.Author.Needs.{needs}
-use Rattle.receiver.specs.Call.{walkTo}
-use Rattle.receiver.proofs.Calling.{drop-gives, setOut-none, tell-gives}
-use Rattle.receiver.proofs.Parting.{due-all, due-before, due-on, due-past}
+use Rattle.receiver.proofs.Parting.{behind-in, due-behind, due-outside}
 use Rattle.receiver.proofs.stages.due.Statement.{statement}
 use Rattle.receiver.proofs.stages.due.Tie as tie
 
-sub-set-out : tie.Need-sub-set-out
-sub-set-out c = search needs
-
-set-out-requires : tie.Need-set-out-requires
-set-out-requires c κs =
-    let s = c .before .before .before .before .before in
+place-of-requires : tie.Need-place-of-requires
+place-of-requires c κs =
+    let s = c .before in
     let a = s .args in
     let l = s .pre .1 in
     let p = l .walk .at in
-    let q = l .whole in
+    let w = l .whole in
     let d : a .at ≤ length (a .tp .now) = omega arith in
-    (rw (l .full, l .whole) (l .walk), (omega arith, l .settled))
+    (s .pre .0, d)
 
-tell-requires : tie.Need-tell-requires
-tell-requires c κs = search needs
-
-same-length : tie.Need-same-length
-same-length c = search needs
-
-returns : tie.Need-returns
-returns c =
-    let s = c .before .before .before .before .before .before .before .before .before in
-    let a = s .args in
-    let l = s .pre .1 in
-    let p = l .walk .at in
-    let q = l .whole in
-    let d : a .at ≤ length (a .tp .now) = omega arith in
-    let g = c .before .before .before .set-out .ensures in
-    rw (c .tell .ensures) (due-all (a .r) (a .offset) (a .at) (a .tp .now) (a .room .now) _ _ (l .payload) d (c .before .before .before .before .before .if1 .taken) (tell-gives (a .r) (a .tp .now) _ (a .room .now) (l .size) (l .whole) (l .full) (c .before .before .before .set-out .result) _ (g .same) (g .sound) (g .gained) (setOut-none (length (a .room .now)) (walkTo (a .r) (a .at)) (length (a .tp .now) - a .at) (a .tp .now) (a .room .now)) (search needs)))
-
-add-if2 : tie.Need-add-if2
-add-if2 c = search needs
+enum-told : tie.Need-enum-told
+enum-told c = search needs
 
 drop-rest-requires : tie.Need-drop-rest-requires
 drop-rest-requires c κs = search needs
+
+enum-known-n : tie.Need-enum-known-n
+enum-known-n c = search needs
+
+set-about-requires : tie.Need-set-about-requires
+set-about-requires c κs =
+    let s = c .before .before .before .before .before in
+    let a = s .args in
+    let l = s .pre .1 in
+    let e = sym (c .before .before .before .place-of .ensures) ∙ c .before .n .given .1 in
+    let p = l .walk .at in
+    let w = l .whole in
+    let d : a .at ≤ length (a .tp .now) = omega arith in
+    (behind-in (a .offset) (a .at) (length (a .tp .now)) _ d e, l)
+
+returns : tie.Need-returns
+returns c =
+    let s = c .before .before .before .before .before in
+    let a = s .args in
+    let l = s .pre .1 in
+    let e = sym (c .before .before .before .place-of .ensures) ∙ c .before .enum-told .given .1 in
+    rw (c .drop-rest .ensures) (due-outside (a .r) (a .offset) (a .at) (a .tp .now) l e)
 
 returns-2 : tie.Need-returns-2
 returns-2 c =
     let s = c .before .before .before .before .before .before in
     let a = s .args in
     let l = s .pre .1 in
-    let p = l .walk .at in
-    let q = l .whole in
-    let d : a .at ≤ length (a .tp .now) = omega arith in
-    rw (c .drop-rest .ensures) (due-past (a .r) (a .offset) (a .at) (a .tp .now) (a .room .now) _ _ (l .payload) d (c .before .before .if1 .left) (c .before .if2 .taken) (drop-gives (a .r) (a .tp .now) (a .room .now) (l .size) (l .whole) (l .full) 9 (a .at) d))
-
-add-if3 : tie.Need-add-if3
-add-if3 c = search needs
-
-drop-rest-requires-2 : tie.Need-drop-rest-requires-2
-drop-rest-requires-2 c κs = search needs
-
-returns-3 : tie.Need-returns-3
-returns-3 c =
-    let s = c .before .before .before .before .before .before .before in
-    let a = s .args in
-    let l = s .pre .1 in
-    let p = l .walk .at in
-    let q = l .whole in
-    let d : a .at ≤ length (a .tp .now) = omega arith in
-    rw (c .drop-rest2 .ensures) (due-before (a .r) (a .offset) (a .at) (a .tp .now) (a .room .now) _ _ (l .payload) d (c .before .before .before .if1 .left) (c .before .before .if2 .left) (c .before .if3 .taken) (drop-gives (a .r) (a .tp .now) (a .room .now) (l .size) (l .whole) (l .full) 9 (a .at) d))
-
-add-set-out : tie.Need-add-set-out
-add-set-out c = search needs
-
-sub-set-out-2 : tie.Need-sub-set-out-2
-sub-set-out-2 c = search needs
-
-set-out-requires-2 : tie.Need-set-out-requires-2
-set-out-requires-2 c κs =
-    let s = c .before .before .before .before .before .before .before in
-    let a = s .args in
-    let l = s .pre .1 in
-    let p = l .walk .at in
-    let q = l .whole in
-    let d : a .at ≤ length (a .tp .now) = omega arith in
-    (rw (l .full, l .whole) (l .walk), (omega arith, l .settled))
-
-tell-requires-2 : tie.Need-tell-requires-2
-tell-requires-2 c κs = search needs
-
-same-length-2 : tie.Need-same-length-2
-same-length-2 c = search needs
-
-returns-4 : tie.Need-returns-4
-returns-4 c =
-    let s = c .before .before .before .before .before .before .before .before .before .before .before in
-    let a = s .args in
-    let l = s .pre .1 in
-    let p = l .walk .at in
-    let q = l .whole in
-    let d : a .at ≤ length (a .tp .now) = omega arith in
-    let g = c .before .before .before .set-out2 .ensures in
-    rw (c .tell2 .ensures) (due-on (a .r) (a .offset) (a .at) (a .tp .now) (a .room .now) _ _ (l .payload) d (c .before .before .before .before .before .before .before .if1 .left) (c .before .before .before .before .before .before .if2 .left) (c .before .before .before .before .before .if3 .left) (tell-gives (a .r) (a .tp .now) _ (a .room .now) (l .size) (l .whole) (l .full) (c .before .before .before .set-out2 .result) _ (g .same) (g .sound) (g .gained) (setOut-none (length (a .room .now)) (walkTo (a .r) (a .at)) (a .offset + 4 - a .at) (a .tp .now) (a .room .now)) (search needs)))
+    let e = sym (c .before .before .before .before .place-of .ensures) ∙ c .before .before .n .given .1 in
+    due-behind (a .r) (a .offset) (a .at) (a .tp .now) l _ _ e (c .set-about .ensures)
 
 pub due-spec : {M : Type 1} → statement M
 due-spec =
     tie.close
     (tie.spec
-    sub-set-out
-    set-out-requires
-    tell-requires
-    same-length
-    returns
-    add-if2
+    place-of-requires
+    enum-told
     drop-rest-requires
-    returns-2
-    add-if3
-    drop-rest-requires-2
-    returns-3
-    add-set-out
-    sub-set-out-2
-    set-out-requires-2
-    tell-requires-2
-    same-length-2
-    returns-4)
+    enum-known-n
+    set-about-requires
+    returns
+    returns-2)

@@ -3,10 +3,10 @@
 use mathlib.Core.Path.{ap, refl, sym, _≡_}
 use native.Mathlib.Omega.{arith}
 use lib.ListN.{length}
-use borrow.Author.Needs.{needs}
 use Rattle.receiver.specs.declared.walk.Phase.{Phase}
 use Rattle.receiver.specs.State.{Fine}
 use Rattle.receiver.specs.Turns.{walkAt}
+use borrow.Author.Needs.{needs}
 use Rattle.receiver.proofs.Bodies.{header-turned, lost-turned}
 use Rattle.receiver.proofs.Turning.{admit-turned}
 use Rattle.receiver.proofs.walk.advance.Statement.{statement}
@@ -25,10 +25,9 @@ header-requires : tie.Need-header-requires
 header-requires c κs =
     let s = c .before .before .before .before .before in
     let a = s .args in
-    let q = c .before .phase .given .1 in
     let f : Fine (length (a .room .now)) (a .w .phase) (a .w .kept) = s .pre .phase in
-    let g = rw q at f in
-    let p = s .pre .at in (g .0, g .1, p)
+    let g = rw (c .before .phase .given .1) at f in
+    ((g .0, g .1, s .pre .at), g .2)
 
 enum-known-phase-2 : tie.Need-enum-known-phase-2
 enum-known-phase-2 c = search needs
@@ -37,9 +36,8 @@ admit-requires : tie.Need-admit-requires
 admit-requires c κs =
     let s = c .before .before .before .before .before in
     let a = s .args in
-    let q = c .before .phase2 .given .1 in
     let f : Fine (length (a .room .now)) (a .w .phase) (a .w .kept) = s .pre .phase in
-    let g = rw q at f in
+    let g = rw (c .before .phase2 .given .1) at f in
     g
 
 enum-known-phase-3 : tie.Need-enum-known-phase-3
@@ -49,9 +47,8 @@ body-requires : tie.Need-body-requires
 body-requires c κs =
     let s = c .before .before .before .before .before .before in
     let a = s .args in
-    let q = c .before .before .phase3 .given .1 in
     let f : Fine (length (a .room .now)) (a .w .phase) (a .w .kept) = s .pre .phase in
-    let g = rw q at f in
+    let g = rw (c .before .before .phase3 .given .1) at f in
     record { at = s .pre .at; phase = g }
 
 returns : tie.Need-returns
@@ -79,8 +76,7 @@ returns-4 : tie.Need-returns-4
 returns-4 c =
     let s = c .before .before .before .before .before .before .before .before .before in
     let a = s .args in
-    let q = c .before .before .before .before .before .phase3 .given .1 in
-    let v : walkAt (a .w .at) _ (a .w .kept) ≡ a .w = ap (λ (p : Phase). walkAt (a .w .at) p (a .w .kept)) (sym q) in
+    let v : walkAt (a .w .at) _ (a .w .kept) ≡ a .w = ap (λ (p : Phase). walkAt (a .w .at) p (a .w .kept)) (sym (c .before .before .before .before .before .phase3 .given .1)) in
     rw v at (c .before .before .body .ensures)
 
 pub advance-spec : {M : Type 1} → statement M

@@ -1,8 +1,8 @@
 -- `receiver::walk::header` meets its contract: either the TP ends first, or the header is whole.
 -- Assumes nothing.
-use borrow.Author.Needs.{needs}
 use borrow.Author.Tests.{le-ltb, lt-ltb}
 use Rattle.receiver.specs.Turns.{headerTurn}
+use borrow.Author.Needs.{needs}
 use Rattle.receiver.proofs.walk.header.Statement.{statement}
 use Rattle.receiver.proofs.walk.header.Tie as tie
 
@@ -28,8 +28,8 @@ returns : tie.Need-returns
 unfolding headerTurn
 returns c = simp (lt-ltb _ _ (c .before .before .if1 .taken), c .stop .ensures, c .before .gather .ensures)
 
-gather-requires-2 : tie.Need-gather-requires-2
-gather-requires-2 c κs = search needs
+complete-requires : tie.Need-complete-requires
+complete-requires c κs = search needs
 
 add-whole : tie.Need-add-whole
 add-whole c = search needs
@@ -39,7 +39,7 @@ whole-requires c κs = search needs
 
 returns-2 : tie.Need-returns-2
 unfolding headerTurn
-returns-2 c = simp (le-ltb _ _ (c .before .before .if1 .left), c .whole .ensures, c .before .gather2 .ensures)
+returns-2 c = simp (le-ltb _ _ (c .before .before .if1 .left), c .whole .ensures, c .before .complete .ensures)
 
 pub header-spec : {M : Type 1} → statement M
 header-spec =
@@ -52,7 +52,7 @@ header-spec =
     add-got
     stop-requires
     returns
-    gather-requires-2
+    complete-requires
     add-whole
     whole-requires
     returns-2)

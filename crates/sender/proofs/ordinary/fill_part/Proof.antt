@@ -1,12 +1,15 @@
--- `ordinary::fill_part` meets its contract: what fits of a header, then AA. Assumes nothing.
+-- `ordinary::fill_part` meets its contract: nothing, or what fits of a header, then AA. Assumes nothing.
 use mathlib.Core.Path.{refl}
-use Rattle.sender.proofs.Stream.{fill-written}
+use Rattle.sender.proofs.Stream.{fill-nothing, fill-written}
 use borrow.Author.Needs.{needs}
 use Rattle.sender.proofs.ordinary.fill_part.Statement.{statement}
 use Rattle.sender.proofs.ordinary.fill_part.Tie as tie
 
 sub-m : tie.Need-sub-m
 sub-m c = search needs
+
+returns : tie.Need-returns
+returns c = let a = c .before .before .args in fill-nothing (a .dst .now) (a .at) _ refl (c .if1 .taken)
 
 least-requires : tie.Need-least-requires
 least-requires c κs = search needs
@@ -44,9 +47,9 @@ fill-at-requires c κs = search needs
 same-length : tie.Need-same-length
 same-length c = search needs
 
-returns : tie.Need-returns
-returns c =
-    let s = c .before .before .before .before .before .before .before .before .before .before .before .before .before in
+returns-2 : tie.Need-returns-2
+returns-2 c =
+    let s = c .before .before .before .before .before .before .before .before .before .before .before .before .before .before in
     let a = s .args in
     fill-written (a .dst .now) _ _ (c .before .before .before .before .before .before .before .before .before .before .header-of .result) (a .at) (c .before .before .before .before .before .before .before .before .before .before .before .least .result) _ (s .pre .0) refl (c .before .before .before .before .before .before .before .before .before .before .before .least .ensures) (c .before .before .before .before .before .before .before .before .before .before .header-of .ensures) (c .before .before .before .before .before .before .copy-at .ensures) (c .before .before .fill-at .ensures)
 
@@ -55,6 +58,7 @@ fill-part-spec =
     tie.close
     (tie.spec
     sub-m
+    returns
     least-requires
     sub-header-of
     cast-header-of
@@ -67,4 +71,4 @@ fill-part-spec =
     sub-fill-at
     fill-at-requires
     same-length
-    returns)
+    returns-2)

@@ -1,0 +1,87 @@
+// Where a call takes a transport packet up: its header at the first call, its stage at a later one.
+ghost use mathlib.Core.Path.{_≡_};
+ghost use Prim.Native.Nat.{_≤_};
+ghost use lib.ListN.{length, take, drop};
+ghost use Rattle.digits.specs.Digits.{number};
+ghost use Rattle.receiver.specs.declared.Find.the-variants as F;
+ghost use Rattle.receiver.specs.declared.Stage.the-variants.{Fresh};
+ghost use Rattle.receiver.specs.declared.entry.Begun.the-variants as B;
+ghost use Rattle.receiver.specs.declared.walk.Kept.the-variants.{Empty};
+ghost use Rattle.receiver.specs.declared.walk.Phase.the-variants.{Lost};
+ghost use Rattle.receiver.specs.State.{Able};
+ghost use Rattle.receiver.specs.Call.{freshly, staged};
+ghost use Rattle.receiver.specs.Steps.{Lent, Begins, stepOf};
+use crate::Find;
+use crate::Receiver;
+use crate::Stage;
+use crate::Step;
+use crate::stages;
+use crate::walk::Kept;
+use crate::walk::Phase;
+use wire::TpWord;
+
+// With a find of the header; at its low-latency part, if there is one; among ordinary bytes.
+pub enum Begun {
+    Gives(Step),
+    Part { low: bool, offset: usize, at: usize },
+    Plain,
+}
+
+fn tp_word(tp: &[u8]) -> u32
+    requires { ⌜ 4 ≤ length (now tp) ⌝ }
+    ensures { λ q. ⌜ q ≡ number 0 (take 3 (drop 1 (now (tp .entry)))) ⌝ }
+{
+    digits::from_three(tp[1], tp[2], tp[3])
+}
+
+// Out of step, the TP dropped.
+fn drop_all(r: Receiver, number: u8) -> Begun
+    ensures { λ q. ⌜ q ≡ B.Gives (stepOf r Fresh 0 Lost Empty (F.Notice number)) ⌝ }
+{
+    let find = Find::Notice(number);
+    Begun::Gives(stages::step_to(r, Stage::Fresh, 0, Phase::Lost, Kept::Empty, find))
+}
+
+// A TP's first call: 8, 7, 9.
+fn first(r: Receiver, tp: &[u8]) -> Begun
+    requires { ⌜ Able r × Lent r 4 (now tp) ⌝ }
+    ensures { λ q. ⌜ Begins (freshly r (now (tp .entry))) r (now (tp .entry)) q ⌝ }
+{
+    let b = tp[0];
+    if b / 16 != r.stream {
+        return Begun::Gives(Step {
+            receiver: r,
+            find: Find::Notice(8),
+        });
+    }
+    if b % 4 != 0 {
+        return drop_all(r, 7);
+    }
+    match wire::read_tp_word(tp_word(tp)) {
+        TpWord::Beyond => drop_all(r, 9),
+        TpWord::Says { low, offset } => Begun::Part { low, offset, at: 4 },
+    }
+}
+
+pub fn begin(r: Receiver, tp: &[u8]) -> Begun
+    requires { ⌜ Able r × (length (now tp) ≡ r .size) ⌝ }
+    ensures { λ q. ⌜ Begins (staged (r .stage) r (now (tp .entry))) r (now (tp .entry)) q ⌝ }
+{
+    let stage = r.stage;
+    let w = r.walk;
+    let at = w.at;
+    match stage {
+        Stage::Fresh => first(r, tp),
+        Stage::Low(offset) => Begun::Part {
+            low: true,
+            offset,
+            at,
+        },
+        Stage::Due(offset) => Begun::Part {
+            low: false,
+            offset,
+            at,
+        },
+        Stage::Plain => Begun::Plain,
+    }
+}
