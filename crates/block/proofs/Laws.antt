@@ -1,10 +1,11 @@
 -- What is put in two goes is put in one: so a line is put piece by piece. Assumes nothing.
 use Prim.Native.Nat.{ℕ, _+_, _-_, _≤_, _<_, min}
 use mathlib.Core.Path.{_≡_, ap, sym, _∙_}
-use mathlib.Core.List.{List, _++_, append-assoc}
+use mathlib.Core.List.{List, _++_, append-assoc, append-nil}
 use native.Mathlib.Omega.{arith}
 use borrow.Author.Tests.{le-leb, lt-leb}
-use lib.ListN.{length, take, drop, length-append, length-drop}
+use borrow.Rule.Slice.PartMut.{putMid, post-is}
+use lib.ListN.{length, take, drop, length-append, length-drop, drop-of-length-le}
 use lib.Seq.{take-length, length-take-le, take-at, drop-drop, drop-append-add}
 use Rattle.queue.specs.Ring.{copied}
 use Rattle.block.specs.Block.{Block, placed, put}
@@ -21,6 +22,21 @@ pub copies : (d : List ℕ) (n : ℕ) (s : List ℕ) → n + length s ≤ length
 copies d n s h =
     let e : min (length s) (length d - n) ≡ length s = omega arith in
     rw (e, take-length)
+
+-- s copied over a part that is as long as s, and the part put back
+over : (x s : List ℕ) → length x ≡ length s → copied x 0 s ≡ s
+over x s e =
+    let all : length x ≤ 0 + length s = omega arith in
+    copies x 0 s (omega arith) ∙ ap (λ (y : List ℕ). s ++ y) (drop-of-length-le x all) ∙ append-nil s
+
+pub in-part : (d s b : List ℕ) (n : ℕ) → n + length s ≤ length d → b ≡ copied (take (n + length s - n) (drop n d)) 0 s
+    → putMid n (n + length s - n) d b ≡ placed d n s
+in-part d s b n h e =
+    let size : n + length s - n ≡ length s = omega arith in
+    let long : length (take (n + length s - n) (drop n d)) ≡ length s = ap (λ (k : ℕ). length (take k (drop n d))) size ∙ length-take-le (length s) (drop n d) (rw length-drop (omega arith)) in
+    ap (λ (x : List ℕ). take n d ++ (b ++ x)) (post-is n (n + length s) d (omega arith))
+    ∙ ap (λ (x : List ℕ). take n d ++ (x ++ drop (n + length s) d)) (e ∙ over (take (n + length s - n) (drop n d)) s long)
+    ∙ sym (append-assoc (take n d) s (drop (n + length s) d))
 
 -- what is held then
 front : (d : List ℕ) (n : ℕ) (s : List ℕ) → n ≤ length d → length (take n d ++ s) ≡ n + length s

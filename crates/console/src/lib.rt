@@ -1,27 +1,34 @@
-// What both programs do with standard input, output and error: records in, blocks out, and one line on why a program stops.
+// What both programs do with standard input, output and error: an input block from which records are taken, blocks out, and one
+// line on why a program stops.
 ghost use mathlib.Core.Path.{_≡_};
+ghost use Prim.Native.Nat.{min};
 ghost use lib.ListN.{length};
-ghost use Rattle.console.specs.Taking.{Fits, Told};
+ghost use Rattle.console.specs.Taking.{stretch, moved, ReadOn, Chosen, Told};
+use house::AtHand;
 use house::Fault;
-use house::Judged;
 use house::Place;
-use house::Record;
 use house::Settings;
 use house::Setup;
 use libc::STDERR_FILENO;
 use libc::STDIN_FILENO;
 use libc::STDOUT_FILENO;
 
-// A record, or no more: the input ends, or a bad record was told of.
-pub enum Taken {
-    End,
-    Got(Record),
+// The stretch of the input block that was read and is not yet taken.
+pub struct Unread {
+    pub from: usize,
+    pub till: usize,
 }
 
-// The settings of the first record, or nothing to do.
+// What more the input gave: nothing, or the block's new stretch.
+pub enum More {
+    End,
+    Read(Unread),
+}
+
+// The settings of the first record with what follows it, or nothing to do.
 pub enum Start {
     End,
-    Ready(Setup),
+    Ready(Setup, Unread),
 }
 
 fn put_fault(out: &mut [u8], at: usize, fault: Fault) -> usize {
@@ -53,59 +60,104 @@ pub fn stop(program: &[u8], begin: u64, fault: Fault) {
     write_held(STDERR_FILENO, &line, at);
 }
 
-fn told(program: &[u8], begin: u64, fault: Fault) -> Taken
-    ensures { λ r. ⌜ r ≡ Taken.End ⌝ }
+fn least(a: usize, b: usize) -> usize
+    ensures { λ r. ⌜ r ≡ min a b ⌝ }
 {
-    stop(program, begin, fault);
-    Taken::End
+    if a < b {
+        return a;
+    }
+    b
 }
 
-fn filled(program: &[u8], begin: u64, said: Record, buf: &mut [u8]) -> Taken
-    ensures { λ r. ⌜ Fits r (length (now (buf .exit))) ⌝ }
+// The bytes of the stretch.
+pub fn bytes_of(block: &[u8], unread: Unread) -> &[u8]
+    ensures { λ r. ⌜ now r ≡ stretch (now (block .entry)) unread ⌝ }
 {
-    let n = house::length_of(said);
-    if buf.len() < n {
-        return told(program, begin, Fault::Length);
-    }
-    let got = io::read_full(STDIN_FILENO, &mut buf[0..n]);
-    if got < n {
-        return told(program, begin, Fault::Short);
-    }
-    Taken::Got(said)
+    let till = least(unread.till, block.len());
+    let from = least(unread.from, till);
+    &block[from..till]
 }
 
-// The record that begins here, whose data are then at the start of buf.
-pub fn next(program: &[u8], begin: u64, place: Place, buf: &mut [u8]) -> Taken
-    ensures { λ r. ⌜ Fits r (length (now (buf .exit))) ⌝ }
+// Moves the stretch to the block's start, and answers its length.
+pub fn to_start(block: &mut [u8], unread: Unread) -> usize
+    ensures { λ r. ⌜ r ≡ length (stretch (now (block .entry)) unread) ⌝ }
+    ensures { λ _. ⌜ now (block .exit) ≡ moved (now (block .entry)) unread ⌝ }
 {
-    let mut head = [0u8; 8];
-    let got = io::read_full(STDIN_FILENO, &mut head);
-    if got == 0 {
-        return Taken::End;
+    let till = least(unread.till, block.len());
+    let from = least(unread.from, till);
+    if from == 0 {
+        return till;
     }
-    if got < 8 {
-        return told(program, begin, Fault::Short);
+    let n = till - from;
+    let mut i = 0;
+    while i < n {
+        block[i] = block[from + i];
+        i += 1;
     }
-    match house::judge(place, &head) {
-        Judged::Bad(fault) => told(program, begin, fault),
-        Judged::Good(said) => filled(program, begin, said, buf),
-    }
+    n
 }
 
-// The setup, whose bytes are then in five.
-pub fn first(program: &[u8], five: &mut [u8; 5]) -> Start
-    ensures { λ r. ⌜ Told r (now (five .exit)) ⌝ }
+// Reads on behind the stretch; where the input ends within a record, says so.
+pub fn read_on(program: &[u8], begin: u64, block: &mut [u8], unread: Unread) -> More
+    ensures { λ r. ⌜ ReadOn (now (block .entry)) unread (now (block .exit)) r ⌝ }
 {
-    if let Taken::End = next(program, 0, Place::Start, five) {
-        return Start::End;
+    let n = to_start(block, unread);
+    let got = libc::read(STDIN_FILENO, &mut block[n..]);
+    let count = io::count(got, &block[n..]);
+    if 0 < count {
+        return More::Read(Unread {
+            from: 0,
+            till: n + count,
+        });
     }
-    match house::read_setup(five) {
+    if 0 < n {
+        stop(program, begin, Fault::Short);
+    }
+    More::End
+}
+
+fn setup_in(program: &[u8], data: &[u8], behind: Unread) -> Start
+    ensures { λ r. ⌜ Chosen (now («data» .entry)) behind r ⌝ }
+{
+    match house::read_setup(data) {
         Settings::Outside => {
             stop(program, 0, Fault::Limits);
             Start::End
         }
-        Settings::Within(setup) => Start::Ready(setup),
+        Settings::Within(setup) => Start::Ready(setup, behind),
     }
+}
+
+// The setup, whose record is then at the block's start.
+pub fn first(program: &[u8], block: &mut [u8]) -> Start
+    ensures { λ r. ⌜ Told (now (block .exit)) r ⌝ }
+{
+    let mut unread = Unread { from: 0, till: 0 };
+    while unread.till < block.len() {
+        let More::Read(longer) = read_on(program, 0, block, unread) else {
+            return Start::End;
+        };
+        unread = longer;
+        let s = bytes_of(block, unread);
+        match house::read_record(Place::Start, s) {
+            AtHand::Part => {}
+            AtHand::Bad(fault) => {
+                stop(program, 0, fault);
+                return Start::End;
+            }
+            AtHand::Whole(said) => {
+                return setup_in(
+                    program,
+                    house::data_of(said, s),
+                    Unread {
+                        from: 13,
+                        till: unread.till,
+                    },
+                );
+            }
+        }
+    }
+    Start::End
 }
 
 // Writes out what is held, and says so if it cannot.

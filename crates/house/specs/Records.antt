@@ -81,7 +81,7 @@ ruled p k c n =
     (Bad Content))
     (Bad Kind)
 
--- what eight bytes say at a place; 50951 is the mark C7 07 as a number
+-- what the first eight bytes say at a place; 50951 is the mark C7 07 as a number
 unfoldable pub judgedOf : Place → List ℕ → Judged
 judgedOf p h =
     cond (eqb (number 0 (getD h 0 0 ∷ getD h 1 0 ∷ [])) 50951)

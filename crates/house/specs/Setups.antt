@@ -2,8 +2,8 @@
 use Prim.Native.Nat.{ℕ}
 use mathlib.Core.Bool.{Bool, cond, _&&_}
 use mathlib.Core.List.{List, [], _∷_, _++_}
-use lib.Dec.{leb}
-use lib.ListN.{getD}
+use lib.Dec.{eqb, leb}
+use lib.ListN.{length, getD}
 use Rattle.digits.specs.Digits.{digits, number}
 use Rattle.house.specs.declared.Setup.{Setup}
 use Rattle.house.specs.declared.Settings.{Settings}
@@ -22,8 +22,9 @@ setupIn d =
 abbrev pub within : Setup → Bool
 within s = leb 16 (s .tp) && (leb (s .tp) 2051 && (leb (s .stream) 15 && leb 1 (s .piece)))
 
+-- "Data are 5 bytes in kind 0"
 unfoldable pub settingsOf : List ℕ → Settings
-settingsOf d = cond (within (setupIn d)) (Within (setupIn d)) Outside
+settingsOf d = cond (eqb (length d) 5 && within (setupIn d)) (Within (setupIn d)) Outside
 
 -- the data of a setup
 abbrev pub setupBytes : Setup → List ℕ

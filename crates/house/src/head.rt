@@ -1,5 +1,7 @@
 // A record's head: judged as it was read, and made to be written.
 ghost use mathlib.Core.Path.{_≡_};
+ghost use Prim.Native.Nat.{_≤_};
+ghost use lib.ListN.{length};
 ghost use Rattle.house.specs.Records.{lengthOf, headOf, kindOf, contentOf, isRead, contentFits, lengthFits, recordOf, ruled, judgedOf};
 use crate::Fault;
 use crate::Judged;
@@ -136,14 +138,15 @@ fn rule(place: Place, kind: u8, content: u8, length: usize) -> Judged
     Judged::Good(record_of(kind, content, length))
 }
 
-// Judges a head at a place.
-pub fn judge(place: Place, head: &[u8; 8]) -> Judged
-    ensures { λ r. ⌜ r ≡ judgedOf place (now (head .entry)) ⌝ }
+// Judges the head at the start of s.
+pub fn judge(place: Place, s: &[u8]) -> Judged
+    requires { ⌜ 8 ≤ length (now s) ⌝ }
+    ensures { λ r. ⌜ r ≡ judgedOf place (now (s .entry)) ⌝ }
 {
-    let mark = digits::from_two(head[0], head[1]);
+    let mark = digits::from_two(s[0], s[1]);
     if mark != 0xC707 {
         return Judged::Bad(Fault::Mark);
     }
-    let length = digits::from_four(head[4], head[5], head[6], head[7]);
-    rule(place, head[2], head[3], length)
+    let length = digits::from_four(s[4], s[5], s[6], s[7]);
+    rule(place, s[2], s[3], length)
 }

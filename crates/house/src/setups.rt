@@ -5,9 +5,12 @@ use crate::Settings;
 use crate::Setup;
 
 // Reads the settings, if they are within the sender's limits.
-pub fn read_setup(data: &[u8; 5]) -> Settings
+pub fn read_setup(data: &[u8]) -> Settings
     ensures { λ r. ⌜ r ≡ settingsOf (now («data» .entry)) ⌝ }
 {
+    if data.len() != 5 {
+        return Settings::Outside;
+    }
     let tp = digits::from_two(data[0], data[1]);
     let stream = data[2];
     let piece = digits::from_two(data[3], data[4]);

@@ -1,12 +1,13 @@
 // The listing program but for its main: house records of TPs and gaps in, a line for each find out (document 01, 'Records and
 // programs').
-ghost use Prim.Native.Nat.{_+_, _≤_, _<_};
+ghost use mathlib.Core.Path.{_≡_};
+ghost use Prim.Native.Nat.{_≤_};
 ghost use lib.ListN.{length};
-ghost use Rattle.receiver.specs.State.{Able};
-ghost use Rattle.console.specs.Taking.{Fits};
-ghost use Rattle.list_loop.specs.Running.{Goes};
+ghost use Rattle.list_loop.specs.Running.{Fit, Onward, Ready, Ahead, Placed, Follows};
+use console::More;
 use console::Start;
-use console::Taken;
+use console::Unread;
+use house::AtHand;
 use house::Fault;
 use house::Place;
 use house::Record;
@@ -14,164 +15,205 @@ use house::Setup;
 use receiver::Opened;
 use receiver::Receiver;
 
-// No input is so long, and no TP gives so much: the loops end for this.
-const LAST: u64 = 0x8000000000000000;
+// No input has so many blocks: the loop over them ends for this.
+const LAST: u64 = 0x3FFFFFFFFFFF;
 
-// The block is written out when so much is held; a line more always has room.
+// The output block is written out when so much is held; a line more always has room.
 const FULL: usize = 61440;
 
-// Between two finds: the receiver, and how much of the output block is held.
+// Between two finds: the receiver, how many TPs are done, how much of the output block is held, where in the input block the
+// record begins.
 struct Run {
     receiver: Receiver,
+    done: u64,
     at: usize,
+    from: usize,
 }
 
-// Output failed; a TP or gap is done; the TP has more to give.
+// How many bytes went before the input block, and its stretch that is not yet taken.
+struct Input {
+    gone: u64,
+    from: usize,
+    till: usize,
+}
+
 enum Next {
     Stop,
-    Last(Run),
-    More(Run),
+    On(Input),
 }
 
-fn next_of(receiver: Receiver, at: usize, goes_on: bool) -> Next
-    requires { ⌜ Able receiver ⌝ }
-    ensures { λ r. ⌜ Goes r ⌝ }
+// The finds of a TP, while the output block has room; then the TP is done.
+fn finds(first: Run, tp: &[u8], room: &mut [u8], out: &mut [u8]) -> Run
+    requires { ⌜ Fit first (length (now tp)) (length (now out)) ⌝ }
+    ensures { λ r. ⌜ Onward first (length (now (tp .entry))) r ⌝ }
 {
-    if goes_on {
-        return Next::More(Run { receiver, at });
-    }
-    Next::Last(Run { receiver, at })
-}
-
-// One find of a TP.
-fn find(run: Run, number: u64, tp: &[u8], room: &mut [u8], out: &mut [u8]) -> Next
-    requires { ⌜ Able (run .receiver) ⌝ }
-    ensures { λ r. ⌜ Goes r ⌝ }
-{
-    let before = run.receiver;
-    let listed = listing::step(before, number, tp, room, out, run.at);
-    let step = listed.step;
-    let receiver = step.receiver;
-    let find = step.find;
-    let goes_on = listing::goes_on(find);
-    let held = listed.at;
-    if held < FULL {
-        return next_of(receiver, held, goes_on);
-    }
-    if !console::flush(b"c7list", out, held) {
-        return Next::Stop;
-    }
-    next_of(receiver, 0, goes_on)
-}
-
-// All finds of a TP.
-fn finds(first: Run, number: u64, tp: &[u8], room: &mut [u8], out: &mut [u8]) -> Next
-    requires { ⌜ Able (first .receiver) ⌝ }
-    ensures { λ r. ⌜ Goes r ⌝ }
-{
-    let mut run = first;
-    let mut left = LAST;
-    while left > 0 {
-        match find(run, number, tp, room, out) {
-            Next::Stop => return Next::Stop,
-            Next::Last(last) => return Next::Last(last),
-            Next::More(more) => run = more,
+    let mut receiver = first.receiver;
+    let mut at = first.at;
+    let number = first.done + 1;
+    while at < FULL {
+        let listed = listing::step(receiver, number, tp, room, out, at);
+        let step = listed.step;
+        receiver = step.receiver;
+        at = listed.at;
+        let find = step.find;
+        if !listing::goes_on(find) {
+            return Run {
+                receiver,
+                done: number,
+                at,
+                from: first.from + 8 + tp.len(),
+            };
         }
-        left -= 1;
     }
-    Next::Last(run)
+    Run {
+        receiver,
+        done: first.done,
+        at,
+        from: first.from,
+    }
 }
 
 // What one record does; kinds other than 4 and 5 are not read here.
-fn turn(run: Run, said: Record, number: u64, tp: &[u8], room: &mut [u8], out: &mut [u8]) -> Next
-    requires { ⌜ Able (run .receiver) ⌝ }
-    ensures { λ r. ⌜ Goes r ⌝ }
-{
-    match said {
-        Record::Packet { length: _ } => finds(run, number, tp, room, out),
-        Record::Gap => {
-            let receiver = run.receiver;
-            Next::Last(Run {
-                receiver: receiver::gap(receiver),
-                at: run.at,
-            })
-        }
-        Record::Setup => Next::Last(run),
-        Record::Ordinary {
-            content: _,
-            length: _,
-        } => Next::Last(run),
-        Record::Low {
-            content: _,
-            length: _,
-        } => Next::Last(run),
-        Record::Draw => Next::Last(run),
-    }
-}
-
-// Refused TPs count, gaps don't.
-fn counted(said: Record, number: u64) -> u64
-    requires { ⌜ number < 9223372036854775808 ⌝ }
-    ensures { λ r. ⌜ r ≤ number + 1 ⌝ }
+fn turn(run: Run, said: Record, data: &[u8], room: &mut [u8], out: &mut [u8]) -> Run
+    requires { ⌜ Fit run (length (now «data»)) (length (now out)) ⌝ }
+    ensures { λ r. ⌜ Onward run (length (now («data» .entry))) r ⌝ }
 {
     if let Record::Packet { length: _ } = said {
-        number + 1
-    } else {
-        number
+        return finds(run, data, room, out);
+    }
+    let receiver = run.receiver;
+    Run {
+        receiver: receiver::gap(receiver),
+        done: run.done,
+        at: run.at,
+        from: run.from + 8,
     }
 }
 
-// The next record; where there is none, what is held goes out.
-fn taken(begin: u64, buf: &mut [u8], out: &[u8], at: usize) -> Taken
-    ensures { λ r. ⌜ Fits r (length (now (buf .exit))) ⌝ }
-{
-    let t = console::next(b"c7list", begin, Place::Listing, buf);
-    if let Taken::End = t {
-        console::flush(b"c7list", out, at);
-    }
-    t
-}
-
-fn turns(first: Run, buf: &mut [u8], room: &mut [u8], out: &mut [u8])
-    requires { ⌜ Able (first .receiver) ⌝ }
-    requires { ⌜ length (now buf) ≤ 32768 ⌝ }
+// Takes the whole records of the input block, while the output block has room.
+fn turns(first: Run, till: usize, block: &[u8], room: &mut [u8], out: &mut [u8]) -> Run
+    requires { ⌜ Ready first till (length (now block)) (length (now out)) ⌝ }
+    ensures { λ r. ⌜ Ahead first till r ⌝ }
 {
     let mut run = first;
-    let mut begin: u64 = 13;
-    let mut number: u64 = 0;
-    while begin < LAST {
-        let at = run.at;
-        let Taken::Got(said) = taken(begin, buf, out, at) else {
-            return;
+    while run.at < FULL {
+        let from = run.from;
+        let unread = &block[from..till];
+        let AtHand::Whole(said) = house::read_record(Place::Listing, unread) else {
+            return run;
         };
-        let n = house::length_of(said);
-        begin = begin + 8 + n as u64;
-        number = counted(said, number);
-        match turn(run, said, number, &buf[0..n], room, out) {
-            Next::Stop => return,
-            Next::Last(next) => run = next,
-            Next::More(next) => run = next,
+        run = turn(run, said, house::data_of(said, unread), room, out);
+    }
+    run
+}
+
+fn stop(begin: u64, fault: Fault) {
+    console::stop(b"c7list", begin, fault);
+}
+
+fn flush(out: &[u8], at: usize) -> bool {
+    console::flush(b"c7list", out, at)
+}
+
+// Reads on behind the stretch.
+fn more(input: Input, block: &mut [u8]) -> Next
+    requires { ⌜ Placed input (length (now block)) ⌝ }
+    ensures { λ r. ⌜ Follows input (length (now (block .entry))) r ⌝ }
+{
+    let from = input.from;
+    let till = input.till;
+    let begin = input.gone + from as u64;
+    match console::read_on(b"c7list", begin, block, Unread { from, till }) {
+        More::End => Next::Stop,
+        More::Read(unread) => Next::On(Input {
+            gone: begin,
+            from: 0,
+            till: unread.till,
+        }),
+    }
+}
+
+// Writes out what is held, and reads on where no whole record is at hand.
+fn read_on(input: Input, block: &mut [u8], out: &[u8], at: usize) -> Next
+    requires { ⌜ Placed input (length (now block)) ⌝ }
+    ensures { λ r. ⌜ Follows input (length (now (block .entry))) r ⌝ }
+{
+    let from = input.from;
+    let till = input.till;
+    match house::read_record(Place::Listing, &block[from..till]) {
+        AtHand::Bad(fault) => {
+            stop(input.gone + from as u64, fault);
+            flush(out, at);
+            Next::Stop
+        }
+        AtHand::Whole(_) => {
+            if flush(out, at) {
+                return Next::On(input);
+            }
+            Next::Stop
+        }
+        AtHand::Part => {
+            if flush(out, at) {
+                return more(input, block);
+            }
+            Next::Stop
         }
     }
 }
 
-fn list(setup: Setup) {
+// Takes block after block.
+fn blocks(first: Run, end: usize, block: &mut [u8], room: &mut [u8], out: &mut [u8])
+    requires { ⌜ Ready first end (length (now block)) (length (now out)) × (first .done ≡ 0) ⌝ }
+{
+    let mut run = first;
+    let mut till = end;
+    let mut gone: u64 = 0;
+    let mut left = LAST;
+    while 0 < left {
+        run = turns(run, till, block, room, out);
+        let from = run.from;
+        let Next::On(input) = read_on(Input { gone, from, till }, block, out, run.at) else {
+            return;
+        };
+        let receiver = run.receiver;
+        let done = run.done;
+        run = Run {
+            receiver,
+            done,
+            at: 0,
+            from: input.from,
+        };
+        gone = input.gone;
+        till = input.till;
+        left -= 1;
+    }
+}
+
+fn list(setup: Setup, unread: Unread, block: &mut [u8])
+    requires { ⌜ (length (now block) ≤ 131072) × ((unread .from ≤ unread .till) × (unread .till ≤ length (now block))) ⌝ }
+{
     let mut room = [0u8; 32768];
     let Opened::Ready(receiver) = receiver::open(setup.tp, setup.stream, &room) else {
-        console::stop(b"c7list", 0, Fault::Limits);
+        stop(0, Fault::Limits);
         return;
     };
-    let mut buf = [0u8; 32768];
     let mut out = [0u8; 65536];
     let at = listing::header(&mut out, 0);
-    turns(Run { receiver, at }, &mut buf, &mut room, &mut out);
+    let from = unread.from;
+    let run = Run {
+        receiver,
+        done: 0,
+        at,
+        from,
+    };
+    blocks(run, unread.till, block, &mut room, &mut out);
 }
 
 // From standard input to standard output.
 pub fn from_input() {
-    let mut five = [0u8; 5];
-    let Start::Ready(setup) = console::first(b"c7list", &mut five) else {
+    let mut block = [0u8; 131072];
+    let Start::Ready(setup, unread) = console::first(b"c7list", &mut block) else {
         return;
     };
-    list(setup);
+    list(setup, unread, &mut block);
 }

@@ -1,13 +1,14 @@
 // The listing's lines, and one call of the receiver with the line of its find: what the listing program does, but for
 // reading and writing.
 ghost use mathlib.Core.Path.{_≡_};
-ghost use mathlib.Core.List.{_++_};
-ghost use Prim.Native.Nat.{_≤_};
-ghost use lib.ListN.{length, take};
+ghost use mathlib.Core.List.{[], _∷_, _++_};
+ghost use Prim.Native.Nat.{_+_, _≤_};
+ghost use lib.ListN.{length};
 ghost use Rattle.block.specs.Block.{put};
+ghost use Rattle.block.specs.Decimal.{decimal};
 ghost use Rattle.receiver.specs.State.{Able};
 ghost use Rattle.receiver.specs.Call.{callOf, Gives};
-ghost use Rattle.listing.specs.Lines.{headerLine, lineWith, lineOf, goesOn};
+ghost use Rattle.listing.specs.Lines.{headerLine, lowWord, ordinaryWord, noticeWord, lineWith, lineOf, goesOn};
 use receiver::Find;
 use receiver::Receiver;
 use receiver::Step;
@@ -25,50 +26,78 @@ pub fn header(out: &mut [u8], at: usize) -> usize
     block::put(out, at, b"tp what content bytes\n")
 }
 
-// A line, made in an empty block that has room for each.
-fn spell(number: u64, word: &[u8], content: u64, bytes: u64, text: &mut [u8]) -> usize
-    requires { ⌜ (length (now word) ≤ 10) × (80 ≤ length (now text)) ⌝ }
-    ensures { λ r. ⌜ record { bytes = now (text .exit); at = r } ≡ put (now (text .entry)) 0 (lineWith number (now (word .entry)) content bytes) ⌝ }
+// Puts a line's numbers behind its word.
+fn numbers(content: u64, bytes: u64, out: &mut [u8], at: usize) -> usize
+    requires { ⌜ at + 42 ≤ length (now out) ⌝ }
+    ensures { λ r. ⌜ record { bytes = now (out .exit); at = r } ≡ put (now (out .entry)) at (decimal content ++ (32 ∷ []) ++ decimal bytes ++ (10 ∷ [])) ⌝ }
 {
-    let mut at = block::put_number(text, 0, number);
-    at = block::put(text, at, word);
-    at = block::put_number(text, at, content);
-    at = block::put(text, at, b" ");
-    at = block::put_number(text, at, bytes);
-    block::put(text, at, b"\n")
+    let mut end = block::put_number(out, at, content);
+    end = block::put(out, end, b" ");
+    end = block::put_number(out, end, bytes);
+    block::put(out, end, b"\n")
 }
 
-fn put_line(number: u64, word: &[u8], content: u64, bytes: u64, out: &mut [u8], at: usize) -> usize
-    requires { ⌜ length (now word) ≤ 10 ⌝ }
-    ensures { λ r. ⌜ record { bytes = now (out .exit); at = r } ≡ put (now (out .entry)) at (lineWith number (now (word .entry)) content bytes) ⌝ }
+// Puts a notice's line, where the longest line has room.
+fn notice(number: u64, n: u64, out: &mut [u8], at: usize) -> usize
+    requires { ⌜ at + 80 ≤ length (now out) ⌝ }
+    ensures { λ r. ⌜ record { bytes = now (out .exit); at = r } ≡ put (now (out .entry)) at (lineWith number noticeWord n 0) ⌝ }
 {
-    let mut text = [0u8; 80];
-    let n = spell(number, word, content, bytes, &mut text);
-    block::put(out, at, &text[0..n])
+    let mut end = block::put_number(out, at, number);
+    end = block::put(out, end, b" notice ");
+    numbers(n, 0, out, end)
+}
+
+// Puts low data's line, where the longest line has room.
+fn low(number: u64, content: u64, bytes: u64, out: &mut [u8], at: usize) -> usize
+    requires { ⌜ at + 80 ≤ length (now out) ⌝ }
+    ensures { λ r. ⌜ record { bytes = now (out .exit); at = r } ≡ put (now (out .entry)) at (lineWith number lowWord content bytes) ⌝ }
+{
+    let mut end = block::put_number(out, at, number);
+    end = block::put(out, end, b" low ");
+    numbers(content, bytes, out, end)
+}
+
+// Puts ordinary data's line, where the longest line has room.
+fn ordinary(number: u64, content: u64, bytes: u64, out: &mut [u8], at: usize) -> usize
+    requires { ⌜ at + 80 ≤ length (now out) ⌝ }
+    ensures { λ r. ⌜ record { bytes = now (out .exit); at = r } ≡ put (now (out .entry)) at (lineWith number ordinaryWord content bytes) ⌝ }
+{
+    let mut end = block::put_number(out, at, number);
+    end = block::put(out, end, b" ordinary ");
+    numbers(content, bytes, out, end)
+}
+
+// Puts the line of a find, where the longest line has room.
+fn spell(number: u64, find: Find, out: &mut [u8], at: usize) -> usize
+    requires { ⌜ at + 80 ≤ length (now out) ⌝ }
+    ensures { λ r. ⌜ record { bytes = now (out .exit); at = r } ≡ put (now (out .entry)) at (lineOf number find) ⌝ }
+{
+    match find {
+        Find::Nothing => at,
+        Find::Refused => notice(number, 1, out, at),
+        Find::Notice(n) => notice(number, n as u64, out, at),
+        Find::Low {
+            content,
+            start: _,
+            len,
+        } => low(number, content as u64, len as u64, out, at),
+        Find::Ordinary { content, len } => ordinary(number, content as u64, len as u64, out, at),
+    }
 }
 
 // Puts the line of a find.
 pub fn line(number: u64, find: Find, out: &mut [u8], at: usize) -> usize
     ensures { λ r. ⌜ record { bytes = now (out .exit); at = r } ≡ put (now (out .entry)) at (lineOf number find) ⌝ }
 {
-    match find {
-        Find::Nothing => block::put(out, at, b""),
-        Find::Refused => put_line(number, b" notice ", 1, 0, out, at),
-        Find::Notice(n) => put_line(number, b" notice ", n as u64, 0, out, at),
-        Find::Low {
-            content,
-            start: _,
-            len,
-        } => put_line(number, b" low ", content as u64, len as u64, out, at),
-        Find::Ordinary { content, len } => put_line(
-            number,
-            b" ordinary ",
-            content as u64,
-            len as u64,
-            out,
-            at,
-        ),
+    if out.len() < at {
+        return at;
     }
+    if 80 <= out.len() - at {
+        return spell(number, find, out, at);
+    }
+    let mut text = [0u8; 80];
+    let n = spell(number, find, &mut text, 0);
+    block::put(out, at, &text[0..n])
 }
 
 // Whether the same TP has more to give.

@@ -9,6 +9,9 @@ use Rattle.block.specs.Block.{Block, placed, put}
 use Rattle.house.specs.Records.{recordBytes}
 use Rattle.house.specs.declared.Record.{Record}
 use Rattle.house.specs.declared.Record.the-variants.{Setup, Ordinary, Low, Draw, Packet, Gap}
+use Rattle.house.specs.declared.Written.{Written}
+use Rattle.house.specs.declared.Written.the-variants.{Till, NoRoom, OtherLength}
+use Rattle.house.specs.Slices.{writtenIn}
 use Rattle.sender.specs.Answers.{Left}
 use Rattle.sender.specs.Offering.{ordinaryOffered, lowOffered}
 use Rattle.sender.specs.Drawing.{drew}
@@ -61,7 +64,12 @@ turnOf Draw s d low ordinary tp o =
 turnOf (Packet n) s d low ordinary tp o = record { sender = s; low = low; ordinary = ordinary; block = o }
 turnOf Gap s d low ordinary tp o = record { sender = s; low = low; ordinary = ordinary; block = o }
 
--- the setup record is written again as it was
-unfoldable pub begun : List ℕ → List ℕ → Block
-begun five out =
-    cond (leb 13 (length out)) (put out 0 (recordBytes Setup five)) (record { bytes = out; at = 0 })
+-- how many bytes the block holds then
+abbrev pub till : Written → ℕ
+till (Till n) = n
+till NoRoom = 0
+till OtherLength = 0
+
+-- the setup record is written again as it was, or the block stays empty
+abbrev pub begun : List ℕ → List ℕ → Block
+begun setup out = let l = writtenIn Setup setup out 0 in record { bytes = l .bytes; at = till (l .answer) }

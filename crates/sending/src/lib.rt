@@ -1,8 +1,9 @@
 // One record in, records out: what the sending program does, but for reading and writing.
 ghost use mathlib.Core.Path.{_≡_};
-ghost use Rattle.sender.specs.Opening.{Sound, SoundAnswer};
-ghost use Rattle.sending.specs.Turn.{kept as Turn·kept, begun, drawnOf, turnOf};
+ghost use Rattle.sender.specs.Opening.{Sound};
+ghost use Rattle.sending.specs.Turn.{begun, drawnOf, turnOf};
 use house::Record;
+use house::Written;
 use sender::Answer;
 use sender::Sender;
 
@@ -13,26 +14,13 @@ pub struct Turned {
 }
 
 // The output begins with the setup record.
-pub fn begin(five: &[u8; 5], out: &mut [u8]) -> usize
-    ensures { λ r. ⌜ record { bytes = now (out .exit); at = r } ≡ begun (now (five .entry)) (now (out .entry)) ⌝ }
+pub fn begin(setup: &[u8], out: &mut [u8]) -> usize
+    ensures { λ r. ⌜ record { bytes = now (out .exit); at = r } ≡ begun (now (setup .entry)) (now (out .entry)) ⌝ }
 {
-    if out.len() < 13 {
-        return 0;
-    }
-    let head = house::head_of(Record::Setup);
-    let at = block::put(out, 0, &head);
-    block::put(out, at, five)
-}
-
-fn kept(s: Sender, a: Answer) -> Sender
-    requires { ⌜ Sound s ⌝ }
-    requires { ⌜ SoundAnswer a ⌝ }
-    ensures { λ r. ⌜ r ≡ Turn·kept a s ⌝ }
-    ensures { λ r. ⌜ Sound r ⌝ }
-{
-    match a {
-        Answer::Done(t) => t,
-        Answer::Refused(_) => s,
+    match house::write_record(Record::Setup, setup, out, 0) {
+        Written::Till(at) => at,
+        Written::NoRoom => 0,
+        Written::OtherLength => 0,
     }
 }
 
@@ -79,14 +67,18 @@ pub fn turn(
     ensures { λ r. ⌜ Sound (r .sender) ⌝ }
 {
     match said {
-        Record::Ordinary { content, length: _ } => Turned {
-            sender: kept(s, sender::offer_ordinary(s, low, ordinary, content, sp)),
-            at,
-        },
-        Record::Low { content, length: _ } => Turned {
-            sender: kept(s, sender::offer_low(s, low, ordinary, content, sp)),
-            at,
-        },
+        Record::Ordinary { content, length: _ } => {
+            match sender::offer_ordinary(s, low, ordinary, content, sp) {
+                Answer::Done(t) => Turned { sender: t, at },
+                Answer::Refused(_) => Turned { sender: s, at },
+            }
+        }
+        Record::Low { content, length: _ } => {
+            match sender::offer_low(s, low, ordinary, content, sp) {
+                Answer::Done(t) => Turned { sender: t, at },
+                Answer::Refused(_) => Turned { sender: s, at },
+            }
+        }
         Record::Draw => drawn(s, low, ordinary, tp, out, at),
         Record::Setup => Turned { sender: s, at },
         Record::Packet { length: _ } => Turned { sender: s, at },

@@ -1,41 +1,59 @@
--- `block::put_number` meets its contract: the kit's digits are the fewest, so they are the decimal ones.
+-- `block::put_number` meets its contract: where the digits fit they are written, and elsewhere nothing is.
 -- Assumes nothing.
-use mathlib.Core.Path.{ap, _∙_}
+use Prim.Native.Nat.{_+_, _-_, _≤_}
+use mathlib.Core.Path.{_≡_, ap, sym, _∙_}
 use native.Mathlib.Omega.{arith}
-use Rattle.block.specs.Block.{put}
-use Rattle.block.proofs.Decimals.{shown}
+use lib.ListN.{length}
+use Rattle.block.specs.Block.{placed}
+use Rattle.block.specs.Decimal.{decimal}
+use Rattle.block.proofs.Decimals.{decimal-some}
+use Rattle.block.proofs.Laws.{fits, misfits, blockOf}
 use borrow.Author.Needs.{needs}
 use Rattle.block.proofs.put_number.Statement.{statement}
 use Rattle.block.proofs.put_number.Tie as tie
 
-decimal-requires : tie.Need-decimal-requires
-decimal-requires c κs = search needs
+places-requires : tie.Need-places-requires
+places-requires c κs = search needs
 
-array-share-prefix-text : tie.Need-array-share-prefix-text
-array-share-prefix-text c = search needs
+returns : tie.Need-returns
+returns c = let a = c .before .before .before .args in sym (misfits (a .out .now) (a .at) (decimal (a .n)) (omega (arith, decimal-some (a .n))))
 
-slice-aggregate-put : tie.Need-slice-aggregate-put
-slice-aggregate-put c = search needs
+sub-if2 : tie.Need-sub-if2
+sub-if2 c = search needs
 
-put-requires : tie.Need-put-requires
-put-requires c κs = search needs
+returns-2 : tie.Need-returns-2
+returns-2 c = let a = c .before .before .before .before .args in sym (misfits (a .out .now) (a .at) (decimal (a .n)) (omega (arith, c .before .before .places .ensures)))
+
+add-end : tie.Need-add-end
+add-end c = search needs
+
+spell-requires : tie.Need-spell-requires
+spell-requires c κs = search needs
 
 same-length : tie.Need-same-length
 same-length c = search needs
 
-returns : tie.Need-returns
-returns c =
+returns-3 : tie.Need-returns-3
+returns-3 c =
     let a = c .before .before .before .before .before .before .before .before .args in
-    let d = c .before .before .before .before .before .decimal in
-    c .before .before .put .ensures ∙ ap (put (a .out .now) (a .at)) (d .ensures .1 .1 ∙ shown (d .result) (a .n) (omega arith) (d .ensures .1 .0))
+    let k = c .before .before .before .before .before .before .places .result in
+    let d = decimal (a .n) in
+    let long : k ≡ length d = c .before .before .before .before .before .before .places .ensures in
+    let start : a .at + k - length d ≡ a .at = omega arith in
+    let h : a .at + length d ≤ length (a .out .now) = omega arith in
+    ap (λ x. blockOf x (a .at + k)) (c .before .before .spell .ensures ∙ ap (λ x. placed (a .out .now) x d) start)
+    ∙ ap (λ x. blockOf (placed (a .out .now) (a .at) d) (a .at + x)) long
+    ∙ sym (fits (a .out .now) (a .at) d h)
 
 pub put-number-spec : {M : Type 1} → statement M
 put-number-spec =
     tie.close
     (tie.spec
-    decimal-requires
-    array-share-prefix-text
-    slice-aggregate-put
-    put-requires
+    places-requires
+    returns
+    sub-if2
+    returns-2
+    add-end
+    spell-requires
     same-length
-    returns)
+    returns-3)

@@ -1,28 +1,40 @@
--- `c7list::finds` is safe and ends: it counts down. The invariant: the receiver can be called, and the buffers keep their lengths.
+-- `list_loop::finds` is safe and ends: a find that goes on puts a line, so the block fills. The invariant: the receiver can be called,
+-- no less is held than before, and the buffers keep their lengths.
 -- Assumes nothing.
-use Prim.Native.Nat.{_-_}
-use mathlib.Core.Path.{_≡_, subst}
+use Prim.Native.Nat.{_+_, _-_, _≤_}
+use mathlib.Core.Path.{_≡_, refl, sym, _∙_}
+use native.Mathlib.Omega.{arith}
 use borrow.Author.Needs.{needs}
+use borrow.Author.Tests.{not-false}
 use lib.ListN.{length}
 use Rattle.receiver.specs.State.{Able}
-use Rattle.list_loop.specs.Running.{Goes}
+use Rattle.listing.proofs.Laws.{no-less, grows}
 use Rattle.list_loop.proofs.finds.Statement.{statement}
 use Rattle.list_loop.proofs.finds.Tie as tie
 
 abbrev Inv-loop : tie.InvT-loop
-Inv-loop number tp room₀ out₀ run₀ left₀ room out run left = Able (run .receiver) × ((length room ≡ length room₀) × (length out ≡ length out₀))
+Inv-loop first tp room₀ out₀ receiver₀ at₀ number room out receiver at = Able receiver × ((first .at ≤ at) × ((length room ≡ length room₀) × (length out ≡ length out₀)))
 
 abbrev μ-loop : tie.MeasureT-loop
-μ-loop number tp room₀ out₀ run₀ left₀ room out run left = left
+μ-loop first tp room₀ out₀ receiver₀ at₀ number room out receiver at = 61440 - at
+
+add-number : tie.Need-add-number Inv-loop μ-loop
+add-number c = omega (arith, c .before .before .before .before .before .pre .count)
 
 loop-holds : tie.Need-loop-holds Inv-loop μ-loop
-loop-holds c = search needs
+loop-holds c = (c .before .before .before .before .before .pre .able, (omega arith, (refl, refl)))
 
-find-requires : tie.Need-find-requires Inv-loop μ-loop
-find-requires c κs = search needs
+step-requires : tie.Need-step-requires Inv-loop μ-loop
+step-requires c κs = c .before .before .before .loop .inv .0
 
-enum-told : tie.Need-enum-told Inv-loop μ-loop
-enum-told c = search needs
+goes-on-requires : tie.Need-goes-on-requires Inv-loop μ-loop
+goes-on-requires c κs = search needs
+
+add-t17 : tie.Need-add-t17 Inv-loop μ-loop
+add-t17 c = omega (arith, c .before .before .before .before .before .before .before .before .before .before .before .before .before .before .before .before .before .before .before .pre .end)
+
+add-t19 : tie.Need-add-t19 Inv-loop μ-loop
+add-t19 c = omega (arith, c .before .before .before .before .before .before .before .before .before .before .before .before .before .before .before .before .before .before .before .pre .end)
 
 same-length : tie.Need-same-length Inv-loop μ-loop
 same-length c = search needs
@@ -31,10 +43,35 @@ same-length-2 : tie.Need-same-length-2 Inv-loop μ-loop
 same-length-2 c = search needs
 
 returns : tie.Need-returns Inv-loop μ-loop
-returns c = search needs
+returns c =
+    let s = c .before .before .before .before .before .before .before .before .before .before .before .before .before .before .before .before .before .before .before in
+    let l = c .before .before .before .before .before .before .before .before .before .before .before .before .before .loop in
+    let q = c .before .before .before .before .before .before .before .before .before .step in
+    let more = no-less (s .args .first .done + 1) (q .result .step .find) (l .out) _ (l .at) (q .result .at) (omega (arith, s .pre .room, l .inv .1 .1 .1, c .before .before .before .before .before .before .before .before .before .before .before .before .loop-test .taken)) (q .ensures .1) in
+    record {
+      able = q .ensures .0 .able;
+      held = omega (arith, more, l .inv .1 .0);
+      from = omega arith;
+      end = omega arith;
+      count = omega arith;
+      progress = omega (arith, more, l .inv .1 .0);
+    }
 
-enum-known-last : tie.Need-enum-known-last Inv-loop μ-loop
-enum-known-last c = search needs
+loop-less : tie.Need-loop-less Inv-loop μ-loop
+loop-less c =
+    let s = c .before .before .before .before .before .before .before .before .before .before .before .before .before .before .before .before .before .before in
+    let l = c .before .before .before .before .before .before .before .before .before .before .before .before .loop in
+    let q = c .before .before .before .before .before .before .before .before .step in
+    let room : l .at + 80 ≤ length (l .out) = omega (arith, s .pre .room, l .inv .1 .1 .1, c .before .before .before .before .before .before .before .before .before .before .before .loop-test .taken) in
+    omega (arith, c .before .before .before .before .before .before .before .before .before .before .before .loop-test .taken, grows (s .args .first .done + 1) (q .result .step .find) (l .out) _ (l .at) (q .result .at) room (q .ensures .1) (sym (c .before .goes-on .ensures) ∙ not-false _ (c .if1 .left)))
+
+loop-again : tie.Need-loop-again Inv-loop μ-loop
+loop-again c =
+    let s = c .before .before .before .before .before .before .before .before .before .before .before .before .before .before .before .before .before .before in
+    let l = c .before .before .before .before .before .before .before .before .before .before .before .before .loop in
+    let q = c .before .before .before .before .before .before .before .before .step in
+    let more = no-less (s .args .first .done + 1) (q .result .step .find) (l .out) _ (l .at) (q .result .at) (omega (arith, s .pre .room, l .inv .1 .1 .1, c .before .before .before .before .before .before .before .before .before .before .before .loop-test .taken)) (q .ensures .1) in
+    (q .ensures .0 .able, (omega (arith, more, l .inv .1 .0), (omega (arith, c .before .before .before .before .before .before .before .room .given, l .inv .1 .1 .0), omega (arith, c .before .before .before .before .before .out .given, l .inv .1 .1 .1))))
 
 same-length-3 : tie.Need-same-length-3 Inv-loop μ-loop
 same-length-3 c = search needs
@@ -43,28 +80,17 @@ same-length-4 : tie.Need-same-length-4 Inv-loop μ-loop
 same-length-4 c = search needs
 
 returns-2 : tie.Need-returns-2 Inv-loop μ-loop
-returns-2 c = subst Goes (c .before .last .given .1) (c .before .before .before .before .before .before .before .find .ensures)
-
-enum-known-more : tie.Need-enum-known-more Inv-loop μ-loop
-enum-known-more c = search needs
-
-sub-left : tie.Need-sub-left Inv-loop μ-loop
-sub-left c = search needs
-
-loop-less : tie.Need-loop-less Inv-loop μ-loop
-loop-less c = search needs
-
-loop-again : tie.Need-loop-again Inv-loop μ-loop
-loop-again c = (subst Goes (c .before .more .given .1) (c .before .before .before .before .before .before .before .find .ensures), (search needs, search needs))
-
-same-length-5 : tie.Need-same-length-5 Inv-loop μ-loop
-same-length-5 c = search needs
-
-same-length-6 : tie.Need-same-length-6 Inv-loop μ-loop
-same-length-6 c = search needs
-
-returns-3 : tie.Need-returns-3 Inv-loop μ-loop
-returns-3 c = search needs
+returns-2 c =
+    let s = c .before .before .before .before .before .before .before in
+    let l = c .before .loop in
+    record {
+      able = l .inv .0;
+      held = l .inv .1 .0;
+      from = omega arith;
+      end = omega arith;
+      count = omega arith;
+      progress = omega (arith, s .pre .held, c .loop-test .left);
+    }
 
 pub finds-spec : {M : Type 1} → statement M
 finds-spec =
@@ -72,20 +98,17 @@ finds-spec =
     (tie.spec
     Inv-loop
     μ-loop
+    add-number
     loop-holds
-    find-requires
-    enum-told
+    step-requires
+    goes-on-requires
+    add-t17
+    add-t19
     same-length
     same-length-2
     returns
-    enum-known-last
-    same-length-3
-    same-length-4
-    returns-2
-    enum-known-more
-    sub-left
     loop-less
     loop-again
-    same-length-5
-    same-length-6
-    returns-3)
+    same-length-3
+    same-length-4
+    returns-2)

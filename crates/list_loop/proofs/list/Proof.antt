@@ -1,6 +1,6 @@
--- `c7list::list` is safe: what `open` gives can be called, and the buffer has its length.
+-- `list_loop::list` is safe: what `open` gives can be called, and the output block has its length.
 -- Assumes nothing.
-use mathlib.Core.Path.{subst}
+use mathlib.Core.Path.{refl, subst}
 use native.Mathlib.Omega.{arith}
 use Rattle.receiver.specs.Call.{AbleIf}
 use borrow.Author.Needs.{needs}
@@ -19,9 +19,6 @@ enum-known-receiver c = search needs
 enum-told : tie.Need-enum-told
 enum-told c = search needs
 
-slice-aggregate-stop : tie.Need-slice-aggregate-stop
-slice-aggregate-stop c = search needs
-
 stop-requires : tie.Need-stop-requires
 stop-requires c κs = search needs
 
@@ -34,17 +31,28 @@ slice-aggregate-header c = search needs
 header-requires : tie.Need-header-requires
 header-requires c κs = search needs
 
-slice-aggregate-turns : tie.Need-slice-aggregate-turns
-slice-aggregate-turns c = search needs
+slice-aggregate-blocks : tie.Need-slice-aggregate-blocks
+slice-aggregate-blocks c = search needs
 
-slice-aggregate-turns-2 : tie.Need-slice-aggregate-turns-2
-slice-aggregate-turns-2 c = search needs
+slice-aggregate-blocks-2 : tie.Need-slice-aggregate-blocks-2
+slice-aggregate-blocks-2 c = search needs
 
-slice-aggregate-turns-3 : tie.Need-slice-aggregate-turns-3
-slice-aggregate-turns-3 c = search needs
+blocks-requires : tie.Need-blocks-requires
+blocks-requires c κs =
+    let p = c .before .before .before .before .before .before .before .before .before .before .before .before .pre in (
+      record {
+        able = subst AbleIf (c .before .before .before .before .before .before .before .receiver .given .1) (c .before .before .before .before .before .before .before .before .before .«open» .ensures .able);
+        room = omega arith;
+        from = p .1 .0;
+        end = p .1 .1;
+        size = p .0;
+        count = omega arith;
+      },
+      refl,
+    )
 
-turns-requires : tie.Need-turns-requires
-turns-requires c κs = (subst AbleIf (c .before .before .before .before .before .before .before .receiver .given .1) (c .before .before .before .before .before .before .before .before .before .«open» .ensures .able), omega arith)
+same-length : tie.Need-same-length
+same-length c = search needs
 
 returns-2 : tie.Need-returns-2
 returns-2 c = search needs
@@ -57,13 +65,12 @@ list-spec =
     open-requires
     enum-known-receiver
     enum-told
-    slice-aggregate-stop
     stop-requires
     returns
     slice-aggregate-header
     header-requires
-    slice-aggregate-turns
-    slice-aggregate-turns-2
-    slice-aggregate-turns-3
-    turns-requires
+    slice-aggregate-blocks
+    slice-aggregate-blocks-2
+    blocks-requires
+    same-length
     returns-2)

@@ -1,135 +1,74 @@
--- `listing::line` meets its contract: the find's case picks the line.
+-- `listing::line` meets its contract: the line is spelled in place, or into a text whose start is then put.
 -- Assumes nothing.
 use mathlib.Core.Path.{ap, sym, _∙_}
+use native.Mathlib.Omega.{arith}
 use Rattle.block.specs.Block.{put}
+use Rattle.block.proofs.Laws.{misfits}
 use Rattle.listing.specs.Lines.{lineOf}
+use Rattle.listing.proofs.Laws.{within, cut}
 use borrow.Author.Needs.{needs}
 use Rattle.listing.proofs.line.Statement.{statement}
 use Rattle.listing.proofs.line.Tie as tie
 
-enum-told : tie.Need-enum-told
-enum-told c = search needs
+returns : tie.Need-returns
+returns c =
+    let a = c .before .before .args in
+    sym (misfits (a .out .now) (a .at) (lineOf (a .number) (a .find)) (omega arith))
 
-slice-aggregate-put : tie.Need-slice-aggregate-put
-slice-aggregate-put c = search needs
+sub-if2 : tie.Need-sub-if2
+sub-if2 c = search needs
 
-put-requires : tie.Need-put-requires
-put-requires c κs = search needs
-
-enum-told-2 : tie.Need-enum-told-2
-enum-told-2 c = search needs
-
-slice-aggregate-put-line : tie.Need-slice-aggregate-put-line
-slice-aggregate-put-line c = search needs
-
-put-line-requires : tie.Need-put-line-requires
-put-line-requires c κs = search needs
-
-enum-known-find : tie.Need-enum-known-find
-enum-known-find c = search needs
-
-slice-aggregate-put-line-2 : tie.Need-slice-aggregate-put-line-2
-slice-aggregate-put-line-2 c = search needs
-
-cast-put-line : tie.Need-cast-put-line
-cast-put-line c = search needs
-
-put-line-requires-2 : tie.Need-put-line-requires-2
-put-line-requires-2 c κs = search needs
-
-enum-known-find-2 : tie.Need-enum-known-find-2
-enum-known-find-2 c = search needs
-
-slice-aggregate-put-line-3 : tie.Need-slice-aggregate-put-line-3
-slice-aggregate-put-line-3 c = search needs
-
-cast-put-line-2 : tie.Need-cast-put-line-2
-cast-put-line-2 c = search needs
-
-put-line-requires-3 : tie.Need-put-line-requires-3
-put-line-requires-3 c κs = search needs
-
-enum-known-find-3 : tie.Need-enum-known-find-3
-enum-known-find-3 c = search needs
-
-slice-aggregate-put-line-4 : tie.Need-slice-aggregate-put-line-4
-slice-aggregate-put-line-4 c = search needs
-
-cast-put-line-3 : tie.Need-cast-put-line-3
-cast-put-line-3 c = search needs
-
-put-line-requires-4 : tie.Need-put-line-requires-4
-put-line-requires-4 c κs = search needs
+spell-requires : tie.Need-spell-requires
+spell-requires c κs = search needs
 
 same-length : tie.Need-same-length
 same-length c = search needs
 
-returns : tie.Need-returns
-returns c =
+returns-2 : tie.Need-returns-2
+returns-2 c = search needs
+
+slice-aggregate-spell : tie.Need-slice-aggregate-spell
+slice-aggregate-spell c = search needs
+
+spell-requires-2 : tie.Need-spell-requires-2
+spell-requires-2 c κs = search needs
+
+sub-put : tie.Need-sub-put
+sub-put c = search needs
+
+part-put-start : tie.Need-part-put-start
+part-put-start c = search needs
+
+part-put-end : tie.Need-part-put-end
+part-put-end c =
     let a = c .before .before .before .before .before .before .before .before .args in
-    c .before .before .put .ensures ∙ ap (λ f. put (a .out .now) (a .at) (lineOf (a .number) f)) (sym (c .before .before .before .before .before .enum-told .given .1))
+    within _ (omega arith) (a .number) (a .find) _ _ (c .before .before .before .spell2 .ensures)
+
+put-requires : tie.Need-put-requires
+put-requires c κs = search needs
 
 same-length-2 : tie.Need-same-length-2
 same-length-2 c = search needs
 
-returns-2 : tie.Need-returns-2
-returns-2 c =
-    let a = c .before .before .before .before .before .before .before .before .args in
-    c .before .before .put-line .ensures ∙ ap (λ f. put (a .out .now) (a .at) (lineOf (a .number) f)) (sym (c .before .before .before .before .before .enum-told2 .given .1))
-
-same-length-3 : tie.Need-same-length-3
-same-length-3 c = search needs
-
 returns-3 : tie.Need-returns-3
 returns-3 c =
-    let a = c .before .before .before .before .before .before .before .before .before .args in
-    c .before .before .put-line2 .ensures ∙ ap (λ f. put (a .out .now) (a .at) (lineOf (a .number) f)) (sym (c .before .before .before .before .before .before .find .given .1))
-
-same-length-4 : tie.Need-same-length-4
-same-length-4 c = search needs
-
-returns-4 : tie.Need-returns-4
-returns-4 c =
-    let a = c .before .before .before .before .before .before .before .before .before .args in
-    c .before .before .put-line3 .ensures ∙ ap (λ f. put (a .out .now) (a .at) (lineOf (a .number) f)) (sym (c .before .before .before .before .before .before .find2 .given .1))
-
-same-length-5 : tie.Need-same-length-5
-same-length-5 c = search needs
-
-returns-5 : tie.Need-returns-5
-returns-5 c =
-    let a = c .before .before .before .before .before .before .before .before .before .args in
-    c .before .before .put-line4 .ensures ∙ ap (λ f. put (a .out .now) (a .at) (lineOf (a .number) f)) (sym (c .before .before .before .before .before .before .find3 .given .1))
+    let a = c .before .before .before .before .before .before .before .before .before .before .before .before .args in
+    c .before .before .put .ensures ∙ ap (put (a .out .now) (a .at)) (cut _ (omega arith) (a .number) (a .find) _ _ (c .before .before .before .before .before .before .before .spell2 .ensures))
 
 pub line-spec : {M : Type 1} → statement M
 line-spec =
     tie.close
     (tie.spec
-    enum-told
-    slice-aggregate-put
-    put-requires
-    enum-told-2
-    slice-aggregate-put-line
-    put-line-requires
-    enum-known-find
-    slice-aggregate-put-line-2
-    cast-put-line
-    put-line-requires-2
-    enum-known-find-2
-    slice-aggregate-put-line-3
-    cast-put-line-2
-    put-line-requires-3
-    enum-known-find-3
-    slice-aggregate-put-line-4
-    cast-put-line-3
-    put-line-requires-4
-    same-length
     returns
-    same-length-2
+    sub-if2
+    spell-requires
+    same-length
     returns-2
-    same-length-3
-    returns-3
-    same-length-4
-    returns-4
-    same-length-5
-    returns-5)
+    slice-aggregate-spell
+    spell-requires-2
+    sub-put
+    part-put-start
+    part-put-end
+    put-requires
+    same-length-2
+    returns-3)

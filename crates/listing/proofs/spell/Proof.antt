@@ -1,54 +1,110 @@
--- `listing::spell` meets its contract: six pieces, one after the other, are the line.
+-- `listing::spell` meets its contract: the find's case picks the line.
 -- Assumes nothing.
-use Rattle.listing.proofs.Laws.{spelled}
+use mathlib.Core.Path.{ap, sym, _∙_}
+use native.Mathlib.Omega.{arith}
+use Rattle.block.specs.Block.{put}
+use Rattle.listing.specs.Lines.{lineOf}
+use Rattle.listing.proofs.Laws.{nothing}
 use borrow.Author.Needs.{needs}
 use Rattle.listing.proofs.spell.Statement.{statement}
 use Rattle.listing.proofs.spell.Tie as tie
 
-put-number-requires : tie.Need-put-number-requires
-put-number-requires c κs = search needs
+enum-told : tie.Need-enum-told
+enum-told c = search needs
 
-put-requires : tie.Need-put-requires
-put-requires c κs = search needs
+enum-told-2 : tie.Need-enum-told-2
+enum-told-2 c = search needs
 
-put-number-requires-2 : tie.Need-put-number-requires-2
-put-number-requires-2 c κs = search needs
+notice-requires : tie.Need-notice-requires
+notice-requires c κs = search needs
 
-slice-aggregate-put : tie.Need-slice-aggregate-put
-slice-aggregate-put c = search needs
+enum-known-find : tie.Need-enum-known-find
+enum-known-find c = search needs
 
-put-requires-2 : tie.Need-put-requires-2
-put-requires-2 c κs = search needs
+cast-notice : tie.Need-cast-notice
+cast-notice c = search needs
 
-put-number-requires-3 : tie.Need-put-number-requires-3
-put-number-requires-3 c κs = search needs
+notice-requires-2 : tie.Need-notice-requires-2
+notice-requires-2 c κs = search needs
 
-slice-aggregate-put-2 : tie.Need-slice-aggregate-put-2
-slice-aggregate-put-2 c = search needs
+enum-known-find-2 : tie.Need-enum-known-find-2
+enum-known-find-2 c = search needs
 
-put-requires-3 : tie.Need-put-requires-3
-put-requires-3 c κs = search needs
+cast-low : tie.Need-cast-low
+cast-low c = search needs
+
+low-requires : tie.Need-low-requires
+low-requires c κs = search needs
+
+enum-known-find-3 : tie.Need-enum-known-find-3
+enum-known-find-3 c = search needs
+
+cast-ordinary : tie.Need-cast-ordinary
+cast-ordinary c = search needs
+
+ordinary-requires : tie.Need-ordinary-requires
+ordinary-requires c κs = search needs
+
+returns : tie.Need-returns
+returns c =
+    let s = c .before .before .before in
+    let a = s .args in
+    nothing (a .out .now) (a .at) (omega (arith, s .pre)) ∙ ap (λ f. put (a .out .now) (a .at) (lineOf (a .number) f)) (sym (c .enum-told .given .1))
 
 same-length : tie.Need-same-length
 same-length c = search needs
 
-returns : tie.Need-returns
-returns c =
-    let s = c .before .before .before .before .before .before .before .before .before .before .before .before .before .before .before .before .before .before .before .before .before .before .before .before .before .before .before .before in
-    let a = s .args in
-    spelled (a .number) (a .word .now) (a .content) (a .bytes) (s .pre .0) (a .text .now) (s .pre .1) _ _ _ _ _ _ _ _ _ _ _ _ (c .before .before .before .before .before .before .before .before .before .before .before .before .before .before .before .before .before .before .before .before .before .before .before .before .put-number .ensures) (c .before .before .before .before .before .before .before .before .before .before .before .before .before .before .before .before .before .before .before .before .put .ensures) (c .before .before .before .before .before .before .before .before .before .before .before .before .before .before .before .before .put-number2 .ensures) (c .before .before .before .before .before .before .before .before .before .before .before .put2 .ensures) (c .before .before .before .before .before .before .before .put-number3 .ensures) (c .before .before .put3 .ensures)
+returns-2 : tie.Need-returns-2
+returns-2 c =
+    let a = c .before .before .before .before .before .before .before .args in
+    c .before .before .notice .ensures ∙ ap (λ f. put (a .out .now) (a .at) (lineOf (a .number) f)) (sym (c .before .before .before .before .enum-told2 .given .1))
+
+same-length-2 : tie.Need-same-length-2
+same-length-2 c = search needs
+
+returns-3 : tie.Need-returns-3
+returns-3 c =
+    let a = c .before .before .before .before .before .before .before .before .args in
+    c .before .before .notice2 .ensures ∙ ap (λ f. put (a .out .now) (a .at) (lineOf (a .number) f)) (sym (c .before .before .before .before .before .find .given .1))
+
+same-length-3 : tie.Need-same-length-3
+same-length-3 c = search needs
+
+returns-4 : tie.Need-returns-4
+returns-4 c =
+    let a = c .before .before .before .before .before .before .before .before .args in
+    c .before .before .low .ensures ∙ ap (λ f. put (a .out .now) (a .at) (lineOf (a .number) f)) (sym (c .before .before .before .before .before .find2 .given .1))
+
+same-length-4 : tie.Need-same-length-4
+same-length-4 c = search needs
+
+returns-5 : tie.Need-returns-5
+returns-5 c =
+    let a = c .before .before .before .before .before .before .before .before .args in
+    c .before .before .ordinary .ensures ∙ ap (λ f. put (a .out .now) (a .at) (lineOf (a .number) f)) (sym (c .before .before .before .before .before .find3 .given .1))
 
 pub spell-spec : {M : Type 1} → statement M
 spell-spec =
     tie.close
     (tie.spec
-    put-number-requires
-    put-requires
-    put-number-requires-2
-    slice-aggregate-put
-    put-requires-2
-    put-number-requires-3
-    slice-aggregate-put-2
-    put-requires-3
+    enum-told
+    enum-told-2
+    notice-requires
+    enum-known-find
+    cast-notice
+    notice-requires-2
+    enum-known-find-2
+    cast-low
+    low-requires
+    enum-known-find-3
+    cast-ordinary
+    ordinary-requires
+    returns
     same-length
-    returns)
+    returns-2
+    same-length-2
+    returns-3
+    same-length-3
+    returns-4
+    same-length-4
+    returns-5)

@@ -1,6 +1,6 @@
--- `c7send::send` is safe: what `open` gives is sound, and the buffer has its length.
+-- `send_loop::send` is safe: what `open` gives is sound, and the block has its length.
 -- Assumes nothing.
-use mathlib.Core.Path.{subst}
+use mathlib.Core.Path.{refl, subst}
 use native.Mathlib.Omega.{arith}
 use Rattle.sender.specs.Opening.{SoundAnswer}
 use borrow.Author.Needs.{needs}
@@ -31,26 +31,35 @@ stop-requires c κs = search needs
 returns : tie.Need-returns
 returns c = search needs
 
+sub-begin : tie.Need-sub-begin
+sub-begin c = search needs
+
+part-begin-start : tie.Need-part-begin-start
+part-begin-start c = search needs
+
+part-begin-end : tie.Need-part-begin-end
+part-begin-end c = search needs
+
 slice-aggregate-begin : tie.Need-slice-aggregate-begin
 slice-aggregate-begin c = search needs
 
 begin-requires : tie.Need-begin-requires
 begin-requires c κs = search needs
 
-slice-aggregate-turns : tie.Need-slice-aggregate-turns
-slice-aggregate-turns c = search needs
+slice-aggregate-blocks : tie.Need-slice-aggregate-blocks
+slice-aggregate-blocks c = search needs
 
-slice-aggregate-turns-2 : tie.Need-slice-aggregate-turns-2
-slice-aggregate-turns-2 c = search needs
+slice-aggregate-blocks-2 : tie.Need-slice-aggregate-blocks-2
+slice-aggregate-blocks-2 c = search needs
 
-slice-aggregate-turns-3 : tie.Need-slice-aggregate-turns-3
-slice-aggregate-turns-3 c = search needs
+slice-aggregate-blocks-3 : tie.Need-slice-aggregate-blocks-3
+slice-aggregate-blocks-3 c = search needs
 
-slice-aggregate-turns-4 : tie.Need-slice-aggregate-turns-4
-slice-aggregate-turns-4 c = search needs
+blocks-requires : tie.Need-blocks-requires
+blocks-requires c κs = (subst SoundAnswer (c .before .before .before .before .before .before .before .before .before .before .sender .given .1) (c .before .before .before .before .before .before .before .before .before .before .before .before .«open» .ensures .1), (omega (arith, c .before .before .before .before .before .before .before .before .before .before .before .before .before .before .before .before .pre .0, c .before .before .before .before .before .before .before .before .before .before .before .before .before .before .before .before .pre .1), (omega (arith, c .before .before .before .before .before .before .before .before .before .before .before .before .before .before .before .before .pre .0), refl)))
 
-turns-requires : tie.Need-turns-requires
-turns-requires c κs = (subst SoundAnswer (c .before .before .before .before .before .before .before .before .sender .given .1) (c .before .before .before .before .before .before .before .before .before .before .«open» .ensures .1), omega arith)
+same-length : tie.Need-same-length
+same-length c = search needs
 
 returns-2 : tie.Need-returns-2
 returns-2 c = search needs
@@ -67,11 +76,14 @@ send-spec =
     slice-aggregate-stop
     stop-requires
     returns
+    sub-begin
+    part-begin-start
+    part-begin-end
     slice-aggregate-begin
     begin-requires
-    slice-aggregate-turns
-    slice-aggregate-turns-2
-    slice-aggregate-turns-3
-    slice-aggregate-turns-4
-    turns-requires
+    slice-aggregate-blocks
+    slice-aggregate-blocks-2
+    slice-aggregate-blocks-3
+    blocks-requires
+    same-length
     returns-2)

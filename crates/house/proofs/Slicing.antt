@@ -1,0 +1,107 @@
+-- What each test says of a record in a slice. Assumes nothing.
+use Prim.Native.Nat.{ℕ, _+_, _-_, _≤_, _<_}
+use mathlib.Core.Path.{_≡_, refl, ap, sym, subst, _∙_}
+use mathlib.Core.Bool.{Bool, true, false, cond}
+use mathlib.Core.List.{List, [], _++_}
+use native.Mathlib.Omega.{arith}
+use borrow.Author.Tests.{le-leb, lt-leb, leb-true, eq-eqb, ne-eqb}
+use lib.Dec.{leb}
+use lib.ListN.{length, take, drop, length-append, length-drop, drop-of-length-le}
+use lib.Seq.{take-all, take-nil}
+use Rattle.block.specs.Block.{Block, placed, put}
+use Rattle.block.proofs.Laws.{fits, then, blockOf}
+use Rattle.house.specs.declared.Record.{Record}
+use Rattle.house.specs.declared.Place.{Place}
+use Rattle.house.specs.declared.Fault.{Fault}
+use Rattle.house.specs.declared.Judged.{Judged}
+use Rattle.house.specs.declared.Judged.the-variants.{Good, Bad}
+use Rattle.house.specs.declared.AtHand.{AtHand}
+use Rattle.house.specs.declared.AtHand.the-variants as A
+use Rattle.house.specs.declared.Written.{Written}
+use Rattle.house.specs.declared.Written.the-variants.{Till, NoRoom, OtherLength}
+use Rattle.house.specs.Records.{lengthOf, headOf, recordBytes, judgedOf}
+use Rattle.house.specs.Slices.{behindHead, atHand, dataIn, Left, writtenIn}
+
+abbrev leftOf : Written → List ℕ → Left
+leftOf a b = record { answer = a; bytes = b }
+
+-- ---- read
+
+pub too-short : (p : Place) (s : List ℕ) → length s < 8 → atHand p s ≡ A.Part
+unfolding atHand
+too-short p s h = rw (lt-leb 8 (length s) h)
+
+by-head : (p : Place) (s : List ℕ) (j g : Judged) → 8 ≤ length s → j ≡ judgedOf p s → j ≡ g → behindHead g (length s) ≡ atHand p s
+unfolding atHand
+by-head p s j g h e is = rw (le-leb 8 (length s) h) (ap (λ (x : Judged). behindHead x (length s)) (sym is ∙ e))
+
+pub is-bad : (p : Place) (s : List ℕ) (f : Fault) {j : Judged} → 8 ≤ length s → j ≡ judgedOf p s → j ≡ Bad f → A.Bad f ≡ atHand p s
+is-bad p s f {j} h e is = by-head p s j (Bad f) h e is
+
+module _ (p : Place) (s : List ℕ) (r : Record) {j : Judged} {n : ℕ} (h : 8 ≤ length s) (e : j ≡ judgedOf p s) (is : j ≡ Good r) (long : n ≡ lengthOf r) where
+  pub cut-short : length s - 8 < n → A.Part ≡ atHand p s
+  cut-short l = let less : length s < 8 + lengthOf r = omega arith in subst (λ x. x ≡ atHand p s) (rw (lt-leb (8 + lengthOf r) (length s) less)) (by-head p s j (Good r) h e is)
+
+  pub is-whole : n ≤ length s - 8 → A.Whole r ≡ atHand p s
+  is-whole l = let enough : 8 + lengthOf r ≤ length s = omega arith in subst (λ x. x ≡ atHand p s) (rw (le-leb (8 + lengthOf r) (length s) enough)) (by-head p s j (Good r) h e is)
+
+-- a whole record and its data are at hand
+abbrev needed : AtHand → ℕ
+needed A.Part = 0
+needed (A.Bad f) = 0
+needed (A.Whole r) = 8 + lengthOf r
+
+needed-fits : (p : Place) (s : List ℕ) → needed (atHand p s) ≤ length s
+unfolding atHand
+needed-fits p s = go (leb 8 (length s)) (judgedOf p s)
+  where
+    whole : (r : Record) (t : Bool) → leb (8 + lengthOf r) (length s) ≡ t → needed (cond t (A.Whole r) A.Part) ≤ length s
+    whole r true e = leb-true (8 + lengthOf r) (length s) e
+    whole r false e = omega arith
+
+    go : (t : Bool) (j : Judged) → needed (cond t (behindHead j (length s)) A.Part) ≤ length s
+    go false j = omega arith
+    go true (Bad f) = omega arith
+    go true (Good r) = whole r (leb (8 + lengthOf r) (length s)) refl
+
+pub whole-fits : (p : Place) (s : List ℕ) (r : Record) → atHand p s ≡ A.Whole r → 8 + lengthOf r ≤ length s
+whole-fits p s r is = subst (λ (a : AtHand). needed a ≤ length s) is (needed-fits p s)
+
+-- ---- the data
+
+pub no-data : (r : Record) (s : List ℕ) → length s ≤ 8 → take (0 - 0) (drop 0 s) ≡ dataIn r s
+no-data r s h = rw (drop-of-length-le s h) (sym (take-nil (lengthOf r)))
+
+pub all-behind : (r : Record) (s : List ℕ) (n : ℕ) → n ≡ lengthOf r → length s - 8 < n → take (length s - 8) (drop 8 s) ≡ dataIn r s
+all-behind r s n e h =
+    let all : length (drop 8 s) ≤ lengthOf r = rw length-drop (omega arith) in
+    let here : length (drop 8 s) ≤ length s - 8 = rw length-drop (omega arith) in
+    take-all (length s - 8) (drop 8 s) here ∙ sym (take-all (lengthOf r) (drop 8 s) all)
+
+pub as-said : (r : Record) (s : List ℕ) (n : ℕ) → n ≡ lengthOf r → take (8 + n - 8) (drop 8 s) ≡ dataIn r s
+as-said r s n e = let k : 8 + n - 8 ≡ lengthOf r = omega arith in rw k
+
+-- ---- written
+
+module _ (r : Record) (d out : List ℕ) (at : ℕ) where
+  pub other-length : (n : ℕ) → n ≡ lengthOf r → (length d ≡ n → ⊥) → record { answer = OtherLength; bytes = out } ≡ writtenIn r d out at
+  unfolding writtenIn
+  other-length n e h = rw (ne-eqb (length d) (lengthOf r) (λ same. h (same ∙ sym e)))
+
+  module _ (n : ℕ) (e : n ≡ lengthOf r) (same : length d ≡ n) where
+    pub no-room : leb (at + 8 + length d) (length out) ≡ false → record { answer = NoRoom; bytes = out } ≡ writtenIn r d out at
+    unfolding writtenIn
+    no-room h = rw (eq-eqb (length d) (lengthOf r) (same ∙ e), h)
+
+    -- head and data, put one after the other
+    pub both-put : leb (at + 8 + length d) (length out) ≡ true → (y z : List ℕ) (k q : ℕ)
+        → blockOf y k ≡ put out at (headOf r) → blockOf z q ≡ put y k d → record { answer = Till q; bytes = z } ≡ writtenIn r d out at
+    unfolding writtenIn
+    both-put h y z k q first second =
+        let room : at + 8 + length d ≤ length out = leb-true (at + 8 + length d) (length out) h in
+        let long : length (recordBytes r d) ≡ 8 + length d = length-append (headOf r) d in
+        let whole : at + length (recordBytes r d) ≤ length out = omega arith in
+        let end : at + length (recordBytes r d) ≡ at + 8 + length d = omega arith in
+        rw (eq-eqb (length d) (lengthOf r) (same ∙ e), h)
+        (ap (λ (b : Block). leftOf (Till (b .at)) (b .bytes)) (then out y z (headOf r) d at k q room first second ∙ fits out at (recordBytes r d) whole)
+        ∙ ap (λ (m : ℕ). leftOf (Till m) (placed out at (recordBytes r d))) end)

@@ -1,0 +1,48 @@
+-- `list_loop::from_input` is safe: what follows the setup lies within the block.
+-- Assumes nothing.
+use native.Mathlib.Omega.{arith}
+use Rattle.list_loop.proofs.Laws.{first-within}
+use borrow.Author.Needs.{needs}
+use Rattle.list_loop.proofs.from_input.Statement.{statement}
+use Rattle.list_loop.proofs.from_input.Tie as tie
+
+slice-aggregate-first : tie.Need-slice-aggregate-first
+slice-aggregate-first c = search needs
+
+slice-aggregate-first-2 : tie.Need-slice-aggregate-first-2
+slice-aggregate-first-2 c = search needs
+
+first-requires : tie.Need-first-requires
+first-requires c κs = search needs
+
+enum-known-setup : tie.Need-enum-known-setup
+enum-known-setup c = search needs
+
+enum-told : tie.Need-enum-told
+enum-told c = search needs
+
+returns : tie.Need-returns
+returns c = search needs
+
+slice-aggregate-list : tie.Need-slice-aggregate-list
+slice-aggregate-list c = search needs
+
+list-requires : tie.Need-list-requires
+list-requires c κs = (omega arith, first-within _ _ _ _ (c .before .before .before .before .before .first .ensures) (c .before .before .setup .given .1))
+
+returns-2 : tie.Need-returns-2
+returns-2 c = search needs
+
+pub from-input-spec : {M : Type 1} → statement M
+from-input-spec =
+    tie.close
+    (tie.spec
+    slice-aggregate-first
+    slice-aggregate-first-2
+    first-requires
+    enum-known-setup
+    enum-told
+    returns
+    slice-aggregate-list
+    list-requires
+    returns-2)

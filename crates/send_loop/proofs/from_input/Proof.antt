@@ -1,0 +1,51 @@
+-- `send_loop::from_input` is safe: behind the setup record the block goes on at byte 13.
+-- Assumes nothing.
+use mathlib.Core.Path.{subst}
+use native.Mathlib.Omega.{arith}
+use Rattle.console.specs.Taking.{Told}
+use borrow.Author.Needs.{needs}
+use Rattle.send_loop.proofs.from_input.Statement.{statement}
+use Rattle.send_loop.proofs.from_input.Tie as tie
+
+slice-aggregate-first : tie.Need-slice-aggregate-first
+slice-aggregate-first c = search needs
+
+slice-aggregate-first-2 : tie.Need-slice-aggregate-first-2
+slice-aggregate-first-2 c = search needs
+
+first-requires : tie.Need-first-requires
+first-requires c κs = search needs
+
+enum-known-setup : tie.Need-enum-known-setup
+enum-known-setup c = search needs
+
+enum-told : tie.Need-enum-told
+enum-told c = search needs
+
+returns : tie.Need-returns
+returns c = search needs
+
+slice-aggregate-send : tie.Need-slice-aggregate-send
+slice-aggregate-send c = search needs
+
+send-requires : tie.Need-send-requires
+send-requires c κs =
+    let told = subst (Told (c .before .before .before .before .before .first .last .1 .0)) (c .before .before .setup .given .1) (c .before .before .before .before .before .first .ensures) in
+    (omega arith, told .1 .0)
+
+returns-2 : tie.Need-returns-2
+returns-2 c = search needs
+
+pub from-input-spec : {M : Type 1} → statement M
+from-input-spec =
+    tie.close
+    (tie.spec
+    slice-aggregate-first
+    slice-aggregate-first-2
+    first-requires
+    enum-known-setup
+    enum-told
+    returns
+    slice-aggregate-send
+    send-requires
+    returns-2)
