@@ -14,7 +14,7 @@ BENCH = os.path.join(ROOT, "target", "bench")
 SECOND = os.path.join(BENCH, "c7")
 NATIVE = platform.machine() == "x86_64"
 COMPILER = "gcc" if NATIVE else "x86_64-linux-gnu-gcc"
-SOURCES = ["golay.c", "sender.c", "receiver.c", "house.c", "calls.c", "vectors.c", "main.c"]
+SOURCES = ["golay.c", "sender.c", "receiver.c", "house.c", "calls.c", "vectors.c", "longest.c", "main.c"]
 PACKAGES = ["gcc", "libc6-dev", "valgrind"] if NATIVE else ["gcc-x86-64-linux-gnu", "libc6-dev-amd64-cross"]
 
 
@@ -28,12 +28,24 @@ def lacks_something():
 
 
 def install_missing():
+    """Debian's packages; where they cannot be installed, says which."""
     if not lacks_something():
         return
+    wanted = "bench/run: this needs Debian's packages " + " ".join(PACKAGES)
     root = [] if os.geteuid() == 0 else ["sudo"]
-    for words in (["apt-get", "update"], ["apt-get", "install", "-y", "--no-install-recommends"] + PACKAGES):
-        if subprocess.run(root + words, stdout=subprocess.DEVNULL).returncode != 0:
-            sys.exit("bench/run: cannot install " + " ".join(PACKAGES))
+    if not all(map(shutil.which, root + ["apt-get"])):
+        sys.exit(wanted)
+    print(wanted + "; installing them", file=sys.stderr)
+    subprocess.run(root + ["apt-get", "update"], stdout=subprocess.DEVNULL)
+    subprocess.run(root + ["apt-get", "install", "-y", "--no-install-recommends"] + PACKAGES, stdout=subprocess.DEVNULL)
+    if lacks_something():
+        sys.exit(wanted)
+
+
+def tell_unbuilt(folder, names):
+    missing = [name for name in names if not os.access(os.path.join(folder, name), os.X_OK)]
+    if missing:
+        print("bench/run: not built yet: %s (rt check %s)" % (", ".join(missing), " ".join(missing)), file=sys.stderr)
 
 
 def build_second():
@@ -44,7 +56,7 @@ def build_second():
 
 
 class Program:
-    """One side's program for one end, and its start-up by the bytes of the setup record."""
+    """One side's program for one end, and the cost of its start-up by what it reads then."""
 
     def __init__(self, path, *arguments):
         self.path, self.arguments = path, list(arguments)
@@ -57,18 +69,23 @@ class Program:
         with open(stored("input", data), "rb") as stdin, open(output, "wb") as stdout:
             return icount.count(self.path, self.arguments, stdin, stdout)
 
-    def count_beyond_start_up(self, setup, data, output):
-        """Instructions and system calls of a run, less those of a run on the setup record alone."""
-        if setup not in self.start_up:
-            self.start_up[setup] = self.count(setup)
-        less, counted = self.start_up[setup], self.count(data, output)
+    def count_beyond_start_up(self, one, output):
+        """Instructions and system calls of a run on an input, less those of its start."""
+        if one.start not in self.start_up:
+            self.start_up[one.start] = self.count(one.start)
+        less, counted = self.start_up[one.start], self.count(one.data, output)
         return counted.instructions - less.instructions, counted.system_calls - less.system_calls
 
+    def words(self):
+        return icount.emulator() + icount.command(self.path, self.arguments)
+
+    def answer(self, data):
+        return subprocess.run(self.words(), input=data, capture_output=True, check=True).stdout
+
     def seconds(self, path):
-        words = icount.emulator() + icount.command(self.path, self.arguments)
         with open(path, "rb") as stdin:
             begin = time.perf_counter()
-            subprocess.run(words, stdin=stdin, stdout=subprocess.DEVNULL, check=True)
+            subprocess.run(self.words(), stdin=stdin, stdout=subprocess.DEVNULL, check=True)
             return time.perf_counter() - begin
 
 

@@ -1,7 +1,7 @@
 """Workloads from a seed: a script for the sending program, and the recording that a sender makes of it.
 
 Document 01's longest packet of 131,072 bytes cannot come in a script: a house record holds 32,768 bytes and
-the programs' queues are as long, six of them for the header. `longest` is the longest packet that also fills its TPs.
+the programs' queues are as long. `longest` goes through programs of its own (second/longest.c), which make the calls.
 """
 import os
 import random
@@ -33,8 +33,10 @@ TP_HEADER, EP_HEADER = 4, 6
 STREAM = 5
 
 Setup = namedtuple("Setup", "tp_length piece")
-# The script is None where there is nothing to send; payload bytes are those of all TPs, headers of TPs apart.
-Workload = namedtuple("Workload", "name setup script recording payload")
+# What a program reads, and how much of it is its start-up, whose cost is subtracted.
+Input = namedtuple("Input", "data start")
+# Each end's input, None where there is none; the payload bytes of all TPs; and which programs read it.
+Workload = namedtuple("Workload", "script recording payload through", defaults=["house records"])
 
 
 def payload_length(setup):
@@ -73,18 +75,20 @@ def low_steps(rng, setup, length, count):
     return steps
 
 
+def behind_setup(setup, some_records):
+    start = setup_record(setup)
+    return Input(start + b"".join(some_records), start)
+
+
 def script_of(setup, steps):
     kinds = {"ordinary": records.ORDINARY, "low": records.LOW}
-    parts = [setup_record(setup)]
-    for step in steps:
-        parts.append(records.record(records.DRAW) if step[0] == "draw"
-                     else records.record(kinds[step[0]], 1, step[1]))
-    return b"".join(parts)
+    return behind_setup(setup, [records.record(records.DRAW) if step[0] == "draw"
+                                else records.record(kinds[step[0]], 1, step[1]) for step in steps])
 
 
-def sent(setup, steps):
+def sent(setup, steps, queue=QUEUE):
     """The model of the sender after all steps. It counts drawn room as usable again."""
-    sender = packer.Sender(setup.tp_length, STREAM, setup.piece, QUEUE, QUEUE)
+    sender = packer.Sender(setup.tp_length, STREAM, setup.piece, queue, queue)
     for step in steps:
         if step[0] == "draw":
             sender.draw()
@@ -93,21 +97,17 @@ def sent(setup, steps):
     return sender
 
 
-def recording_of(setup, tps):
-    return setup_record(setup) + b"".join(records.record(records.TP, 0, tp) for tp in tps)
+def received_only(setup, tps):
+    recording = behind_setup(setup, [records.record(records.TP, 0, tp) for tp in tps])
+    return Workload(None, recording, len(tps) * payload_length(setup))
 
 
-def from_steps(name, setup, steps):
-    tps = sent(setup, steps).tps
-    return Workload(name, setup, script_of(setup, steps), recording_of(setup, tps), len(tps) * payload_length(setup))
-
-
-def received_only(name, setup, tps):
-    return Workload(name, setup, None, recording_of(setup, tps), len(tps) * payload_length(setup))
+def from_steps(setup, steps):
+    return received_only(setup, sent(setup, steps).tps)._replace(script=script_of(setup, steps))
 
 
 def ordinary(name, setup, length, count, waiting=0):
-    return from_steps(name, setup, paced(random.Random(name), setup, length, count, waiting))
+    return from_steps(setup, paced(random.Random(name), setup, length, count, waiting))
 
 
 # ---- the workloads, by name ----
@@ -117,7 +117,14 @@ LONGEST = Setup(2051, NO_FRAGMENTS)
 SHORT = Setup(223, NO_FRAGMENTS)
 FRAGMENTS = Setup(1784, 64)
 TINY = Setup(16, NO_FRAGMENTS)
-FILLS_ITS_TPS = 16 * payload_length(LONGEST) - EP_HEADER
+
+
+def longest(count):
+    """Packets of 131,072 bytes, each in 65 TPs; the sending side makes them itself."""
+    packet = bytes(i % 251 for i in range(131072))
+    tps = sent(LONGEST, ([("ordinary", packet)] + [("draw",)] * 65) * count, 262144).tps
+    return Workload(Input(b"\1" + count.to_bytes(2, "big"), b""), Input(b"\2" + b"".join(tps), b"\2"),
+                    len(tps) * payload_length(LONGEST), "calls")
 
 
 def damaged(name, count):
@@ -129,20 +136,20 @@ def damaged(name, count):
         if len(places) == 3:  # the last TP may hold a part of a word
             bits = rng.sample(range(24), rng.randint(1, 3))
             downlink.flip(tps, places, bits)
-    return received_only(name, SHORT, tps)
+    return received_only(SHORT, tps)
 
 
 def noise(name, count):
     """Random bytes behind the right stream and version, without which a TP is not read at all."""
     rng = random.Random(name)
-    return received_only(name, SHORT, [bytes([STREAM << 4]) + rng.randbytes(222) for _ in range(count)])
+    return received_only(SHORT, [bytes([STREAM << 4]) + rng.randbytes(222) for _ in range(count)])
 
 
 def low(name, count):
-    return from_steps(name, SHORT, low_steps(random.Random(name), SHORT, 20, count))
+    return from_steps(SHORT, low_steps(random.Random(name), SHORT, 20, count))
 
 
-def words(name, flips, count=2000):
+def words(name, flips, count=1000):
     """One Golay word in each TP and nothing else to read: the receiver is out of step and no EP begins."""
     rng = random.Random(name)
     tps = []
@@ -151,18 +158,18 @@ def words(name, flips, count=2000):
         for bit in rng.sample(range(24), flips):
             tp ^= 1 << 8 * payload_length(TINY) + bit
         tps.append(tp.to_bytes(TINY.tp_length, "big"))
-    return received_only(name, TINY, tps)
+    return received_only(TINY, tps)
 
 
 MAKERS = {
     "long": lambda name: ordinary(name, LONG, 1400, 200),
-    "longest": lambda name: ordinary(name, LONGEST, FILLS_ITS_TPS, 10),
-    "short": lambda name: ordinary(name, SHORT, 20, 4000),
-    "fill": lambda name: from_steps(name, LONG, [("draw",)] * 150),
-    "low": lambda name: low(name, 4000),
+    "longest": lambda name: longest(4),
+    "short": lambda name: ordinary(name, SHORT, 20, 2000),
+    "fill": lambda name: from_steps(LONG, [("draw",)] * 150),
+    "low": lambda name: low(name, 2000),
     "fragments": lambda name: ordinary(name, FRAGMENTS, 1400, 200),
-    "tiny": lambda name: ordinary(name, TINY, 20, 2000),
-    "damaged": lambda name: damaged(name, 2000),
+    "tiny": lambda name: ordinary(name, TINY, 20, 1000),
+    "damaged": lambda name: damaged(name, 1000),
     "noise": lambda name: noise(name, 1000),
     "intact": lambda name: words(name, 0),
     "repaired": lambda name: words(name, 3),
