@@ -1,18 +1,18 @@
--- What the table's entry at a word's syndrome says of the word.
+-- What a word's syndrome, and the table's entry at it, say of the word.
 -- Assumes nothing.
-use mathlib.Core.Path.{_≡_, refl, sym, ap, _∙_}
+use mathlib.Core.Path.{_≡_, sym, ap, _∙_}
 use mathlib.Core.Logic.{⊎-elim}
-use Prim.Native.Nat.{ℕ, suc, _+_, _/_, _%_, _^_, _≤_, _<_}
+use Prim.Native.Nat.{ℕ, suc, _/_, _%_, _^_, _≤_, _<_}
 use native.Mathlib.Nat.{mod-lt, mod-eq-of-lt, lt-of-not-le, le-of-suc-le-suc}
 use native.Mathlib.Omega.{arith}
 use lib.Bits.{bitXor, xor-lt, xor-zero-r}
 use lib.Count.{ones, onesIn}
-use lib.Dec.{lit<, lit≤}
-use Rattle.golay.specs.Golay.{high, low, checks, chosen, codeWord, weight, distance, syndrome}
+use lib.Dec.{eqb, lit<, lit≤}
+use Rattle.golay.specs.Golay.{high, low, checks, chosen, parity, codeWord, weight, distance, syndrome}
 use Rattle.golay.specs.Answers.{Corrects, Nearest, Decodes}
 use Rattle.golay.specs.declared.Decoded.the-variants.{Word}
-use Rattle.golay.proofs.Xor.{within, chosen-lt, ones-in}
-use Rattle.golay.proofs.Words.{alone, repaired}
+use Rattle.golay.proofs.Xor.{xor-test, within, chosen-lt, ones-all, ones-in}
+use Rattle.golay.proofs.Words.{alone, parity-lt, all-before, all-behind, repaired}
 
 -- a code word within four flips is a nearest one
 pub nearest : (w n c : ℕ) → n < 4096 → distance w (codeWord n) ≡ c → c ≤ 4 → Nearest w c
@@ -31,13 +31,6 @@ flip-lt w e = xor-lt 12 (high w) (high e) (mod-lt (w / 4096) (lit< tt)) (mod-lt 
 pub syndrome-lt : (w : ℕ) → syndrome w < 4096
 unfolding syndrome within
 syndrome-lt w = xor-lt 12 (chosen checks (low w)) (high w) (chosen-lt 12 (low w) checks tt) (mod-lt (w / 4096) (lit< tt))
-
--- the number's half of a word, as it is and with the syndrome flipped in it
-pub half-lt : (w n : ℕ) → n ≡ high w → n < 4096
-half-lt w n half = rw half (mod-lt (w / 4096) (lit< tt))
-
-pub turned-lt : (w n s : ℕ) → n ≡ high w → s ≡ syndrome w → bitXor n s < 4096
-turned-lt w n s half check = xor-lt 12 n s (half-lt w n half) (rw check (syndrome-lt w))
 
 module _ (w x : ℕ) (c : Corrects (syndrome w) x) where
   pub near : (x ≡ 0xFFFF → ⊥) → (bitXor (high w) x < 4096) × (distance w (codeWord (bitXor (high w) x)) ≤ 3)
@@ -68,6 +61,26 @@ pub tried : (w n c : ℕ) → n < 4096 → c ≡ distance w (codeWord n) → c �
 unfolding Decodes
 tried w n c lt e few = (lt, sym e, few)
 
+-- where one half alone was flipped, the ones of the syndrome or of its parity are the flips
+module _ (w n s c : ℕ) (half : n ≡ high w) (check : s ≡ syndrome w) (few : c ≤ 3) where
+  s-lt : s < 4096
+  s-lt = rw check (syndrome-lt w)
+
+  n-lt : n < 4096
+  n-lt = rw half (mod-lt (w / 4096) (lit< tt))
+
+  pub before : c ≡ ones s → Decodes w (Word (bitXor n s) c)
+  before count =
+      tried w (bitXor n s) c (xor-lt 12 n s n-lt s-lt)
+      (count ∙ ones-all 12 s s-lt ∙ rw (half, check) (sym (all-before w)))
+      few
+
+  pub behind : (d : ℕ) → d ≡ parity s → c ≡ ones d → Decodes w (Word n c)
+  behind d code count =
+      tried w n c n-lt
+      (count ∙ ap ones code ∙ ones-all 12 (parity s) (parity-lt s) ∙ rw (half, check) (sym (all-behind w)))
+      few
+
 -- what the entry says to flip, and how many flips that makes
 pub repairs : (w n x c : ℕ) → n ≡ high w → Corrects (syndrome w) x → (x ≡ 0xFFFF → ⊥) → c ≡ distance w (codeWord (bitXor n x))
     → Decodes w (Word (bitXor n x) c)
@@ -79,3 +92,8 @@ repairs w n x c half entry some count =
 pub counted : (w n v : ℕ) → v ≡ codeWord n → ones (bitXor w v % 2 ^ 24) ≡ distance w (codeWord n)
 unfolding distance weight
 counted w n v code = rw code (ones-in 24 (bitXor w (codeWord n)))
+
+-- a word is intact where both halves say the same number
+pub same-halves : (w c : ℕ) → c ≡ chosen checks (low w) → eqb c (high w) ≡ eqb (syndrome w) 0
+unfolding syndrome
+same-halves w c e = rw e (xor-test (chosen checks (low w)) (high w))

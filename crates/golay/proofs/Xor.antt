@@ -1,19 +1,20 @@
 -- Laws of the exclusive or, and of the count of ones.
 -- Assumes nothing.
-use mathlib.Core.Path.{_≡_, refl, sym, ap, ap₂, _∙_, subst}
+use mathlib.Core.Path.{_≡_, refl, sym, ap, ap₂, _∙_}
 use mathlib.Core.Logic.{_⊎_, inl, inr, ⊎-elim}
 use mathlib.Core.List.{List, [], _∷_}
 use Prim.Native.Nat.{ℕ, zero, suc, _+_, _-_, _*_, _/_, _%_, _^_, _≤_, _<_, zero-le, suc-le-suc}
-use native.Mathlib.Nat.{not-suc-le-zero, le-of-suc-le-suc, mod-lt, zero-lt-suc, add-zero, zero-add, zero-mul, one-mul, suc-add, div-one}
+use native.Mathlib.Nat.{not-suc-le-zero, le-of-suc-le-suc, mod-lt, zero-lt-suc, zero-add, zero-mul, one-mul, suc-add, div-one}
 use native.Mathlib.Omega.{arith}
 use mathlib.Core.Bool.{Bool, true, false}
 use lib.Arith.{bin-ind, lt-one}
 use lib.Pow.{pow-pos, shr-lt, shr-shr, field, mod-mod-pow}
-use lib.Dec.{T, ltb, ltb→lt}
+use borrow.Author.Tests.{eqb-true, eqb-false, eq-eqb, ne-eqb}
+use lib.Dec.{T, ltb, eqb, ltb→lt}
 use Rattle.golay.proofs.Test.{both, both-left, both-right}
-use lib.Bits.{bitXor, differ, xor-step, xor-lt, xor-shr, xor-mod, xor-comm, xor-self, xor-zero-l, xor-zero-r}
+use lib.Bits.{bitXor, differ, xor-step, xor-lt, xor-shr, xor-mod, xor-comm, xor-self, xor-zero-r}
 use lib.Count.{ones, onesIn, ones-step}
-use lib.ListN.{length, getD, drop, length-drop, drop-of-length-le}
+use lib.ListN.{length, getD, drop, length-drop}
 use lib.Seq.{drop-cons}
 use native.Mathlib.Numerals.{add-one, one-add}
 use Rattle.golay.specs.Golay.{chosen}
@@ -62,6 +63,17 @@ xor-swap a b c = sym (xor-assoc a b c) ∙ ap (λ (x : ℕ). bitXor x c) (xor-co
 
 pub xor-pairs : (a b c d : ℕ) → bitXor (bitXor a b) (bitXor c d) ≡ bitXor (bitXor a c) (bitXor b d)
 xor-pairs a b c d = xor-assoc a b (bitXor c d) ∙ ap (bitXor a) (xor-swap b c d) ∙ sym (xor-assoc a c (bitXor b d))
+
+-- the sum is 0 just where both are the same
+pub xor-none : (a b : ℕ) → bitXor a b ≡ 0 → a ≡ b
+xor-none a b none = sym (xor-zero-r a) ∙ ap (bitXor a) (sym none) ∙ xor-twice a b
+
+pub xor-test : (a b : ℕ) → eqb a b ≡ eqb (bitXor a b) 0
+xor-test a b = go (eqb a b) refl
+  where
+    go : (t : Bool) → eqb a b ≡ t → t ≡ eqb (bitXor a b) 0
+    go true h = sym (eq-eqb (bitXor a b) 0 (ap (bitXor a) (sym (eqb-true a b h)) ∙ xor-self a))
+    go false h = sym (ne-eqb (bitXor a b) 0 (λ z. eqb-false a b h (xor-none a b z)))
 
 -- ---- the choice of rows is linear
 

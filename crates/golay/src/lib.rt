@@ -2,7 +2,7 @@
 ghost use mathlib.Core.Path.{_≡_};
 ghost use Prim.Native.Nat.{_<_};
 ghost use lib.Dec.{eqb};
-ghost use Rattle.golay.specs.Golay.{chosen, parity, codeWord, distance, high, syndrome, entryOf};
+ghost use Rattle.golay.specs.Golay.{chosen, parity, checks, codeWord, distance, high, low, syndrome, entryOf};
 ghost use Rattle.golay.specs.Answers.{Corrects, Decodes, endOf};
 
 mod corrections;
@@ -74,11 +74,11 @@ fn parity_of(n: u16) -> u16
     combined(ROWS, n)
 }
 
-// The code word of the 12 low bits of n.
+// The code word of the 12 low bits of n, by products as in the pair: they compile to fewer instructions than choices by bit.
 pub fn encode(n: u16) -> u32
     ensures { λ r. ⌜ r ≡ codeWord n ⌝ }
 {
-    ((n % 4096) as u32) << 12 | parity_of(n) as u32
+    pair::encode_pair(0, n).second
 }
 
 // A function of its own, so that the contract names the table's list and no copy of it.
@@ -121,40 +121,84 @@ fn looked_up(w: u32, number: u16, s: u16) -> Decoded
     }
 }
 
-// A word that is no code word. Where one half alone was flipped, as by any single flip, the other half gives the number.
+// The 12 low bits of x without the lowest one bit.
+fn without_lowest(x: u16) -> u16 {
+    let a = x % 4096;
+    a & (a + 4095)
+}
+
+// The sum of v and a row that has at most two ones; else 0. No exit on the way: the compiler tries eight rows at once.
+fn light_sum(rows: [u16; 12], v: u16) -> u16 {
+    let mut found: u16 = 0;
+    for i in 0..12 {
+        let sum = v ^ rows[i];
+        if without_lowest(without_lowest(sum)) == 0 {
+            found |= sum;
+        }
+    }
+    found
+}
+
+// What to flip in the number at syndrome s, whose parity is p, if both halves have flips: of at most three, one half has
+// a single one, which is a row. Nothing is promised: the caller counts.
+fn likely(s: u16, p: u16) -> u16 {
+    let x = light_sum(CHECKS, s);
+    if x != 0 {
+        return x;
+    }
+    s ^ combined(CHECKS, light_sum(ROWS, p))
+}
+
+// A word that is no code word. All flips in the number are the syndrome, all behind it the syndrome's parity.
+// For flips in both halves a likely number is tried before the table.
 fn repaired(w: u32, number: u16, s: u16) -> Decoded
     requires { ⌜ (number ≡ high w) × (s ≡ syndrome w) ⌝ }
     ensures { λ r. ⌜ Decodes w r ⌝ }
 {
-    let behind = flips_to(w, number);
+    let before = u16::count_ones(s);
+    if before <= 3 {
+        return Decoded::Word {
+            number: number ^ s,
+            flips: before as u8,
+        };
+    }
+    let p = parity_of(s);
+    let behind = u16::count_ones(p);
     if behind <= 3 {
         return Decoded::Word {
             number,
             flips: behind as u8,
         };
     }
-    let right = number ^ s;
-    let before = flips_to(w, right);
-    if before <= 3 {
+    let right = (number ^ likely(s, p)) % 4096;
+    let both = flips_to(w, right);
+    if both <= 3 {
         return Decoded::Word {
             number: right,
-            flips: before as u8,
+            flips: both as u8,
         };
     }
     looked_up(w, number, s)
 }
 
+// The number that the parity half stands for.
+fn number_behind(w: u32) -> u16
+    ensures { λ r. ⌜ r ≡ chosen checks (low w) ⌝ }
+{
+    combined(CHECKS, (w % 4096) as u16)
+}
+
 fn syndrome_of(w: u32) -> u16
     ensures { λ r. ⌜ r ≡ syndrome w ⌝ }
 {
-    combined(CHECKS, (w % 4096) as u16) ^ ((w >> 12) % 4096) as u16
+    number_behind(w) ^ ((w >> 12) % 4096) as u16
 }
 
 // Whether the 24 low bits of w are a code word.
 pub fn is_intact(w: u32) -> bool
     ensures { λ r. ⌜ r ≡ eqb (syndrome w) 0 ⌝ }
 {
-    syndrome_of(w) == 0
+    number_behind(w) == ((w >> 12) % 4096) as u16
 }
 
 // What the 24 low bits of w say. An intact word leaves at once.

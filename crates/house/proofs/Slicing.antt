@@ -2,17 +2,19 @@
 use Prim.Native.Nat.{ℕ, _+_, _-_, _≤_, _<_}
 use mathlib.Core.Path.{_≡_, refl, ap, sym, subst, _∙_}
 use mathlib.Core.Bool.{Bool, true, false, cond}
-use mathlib.Core.List.{List, [], _++_}
+use mathlib.Core.List.{List, [], _∷_, _++_}
 use native.Mathlib.Omega.{arith}
 use borrow.Author.Tests.{le-leb, lt-leb, leb-true, eq-eqb, ne-eqb}
 use lib.Dec.{leb}
-use lib.ListN.{length, take, drop, length-append, length-drop, drop-of-length-le}
-use lib.Seq.{take-all, take-nil}
+use lib.ListN.{length, take, drop, getD, length-append, length-drop, drop-of-length-le}
+use lib.Seq.{take-all, take-nil, length-take-le}
 use Rattle.block.specs.Block.{Block, placed, put}
 use Rattle.block.proofs.Laws.{fits, then, blockOf}
+use Rattle.digits.specs.Digits.{number}
 use Rattle.house.specs.declared.Record.{Record}
 use Rattle.house.specs.declared.Place.{Place}
 use Rattle.house.specs.declared.Fault.{Fault}
+use Rattle.house.specs.declared.Fault.the-variants.{Mark}
 use Rattle.house.specs.declared.Judged.{Judged}
 use Rattle.house.specs.declared.Judged.the-variants.{Good, Bad}
 use Rattle.house.specs.declared.AtHand.{AtHand}
@@ -24,6 +26,19 @@ use Rattle.house.specs.Slices.{behindHead, atHand, dataIn, Left, written
 
 abbrev leftOf : Written → List ℕ → Left
 leftOf a b = record { answer = a; bytes = b }
+
+-- ---- the mark
+
+module _ (p : Place) (s : List ℕ) (byte : getD s 1 0 < 256) where
+  no-mark : (number 0 (getD s 0 0 ∷ getD s 1 0 ∷ []) ≡ 50951 → ⊥) → Bad Mark ≡ judgedOf p s
+  unfolding judgedOf
+  no-mark h = rw (ne-eqb _ _ h)
+
+  pub other-first : (getD s 0 0 ≡ 199 → ⊥) → Bad Mark ≡ judgedOf p s
+  other-first h = no-mark (λ e. h (omega (arith, e)))
+
+  pub other-second : (getD s 1 0 ≡ 7 → ⊥) → Bad Mark ≡ judgedOf p s
+  other-second h = no-mark (λ e. h (omega (arith, e)))
 
 -- ---- read
 
@@ -69,8 +84,8 @@ whole-fits p s r is = subst (λ (a : AtHand). needed a ≤ length s) is (needed-
 
 -- ---- the data
 
-pub no-data : (r : Record) (s : List ℕ) → length s ≤ 8 → take (0 - 0) (drop 0 s) ≡ dataIn r s
-no-data r s h = rw (drop-of-length-le s h) (sym (take-nil (lengthOf r)))
+pub no-data : (r : Record) (s : List ℕ) → length s < 8 → take (0 - 0) (drop 0 s) ≡ dataIn r s
+no-data r s h = let few : length s ≤ 8 = omega arith in rw (drop-of-length-le s few) (sym (take-nil (lengthOf r)))
 
 pub all-behind : (r : Record) (s : List ℕ) (n : ℕ) → n ≡ lengthOf r → length s - 8 < n → take (length s - 8) (drop 8 s) ≡ dataIn r s
 all-behind r s n e h =
@@ -80,6 +95,10 @@ all-behind r s n e h =
 
 pub as-said : (r : Record) (s : List ℕ) (n : ℕ) → n ≡ lengthOf r → take (8 + n - 8) (drop 8 s) ≡ dataIn r s
 as-said r s n e = let k : 8 + n - 8 ≡ lengthOf r = omega arith in rw k
+
+-- a whole record has all of them
+pub whole-data : (p : Place) (s : List ℕ) (r : Record) → atHand p s ≡ A.Whole r → length (dataIn r s) ≡ lengthOf r
+whole-data p s r is = length-take-le (lengthOf r) (drop 8 s) (rw length-drop (omega (arith, whole-fits p s r is)))
 
 -- ---- written
 

@@ -143,8 +143,10 @@ pub fn judge(place: Place, s: &[u8]) -> Judged
     requires { ⌜ 8 ≤ length (now s) ⌝ }
     ensures { λ r. ⌜ r ≡ judgedOf place (now (s .entry)) ⌝ }
 {
-    let mark = digits::from_two(s[0], s[1]);
-    if mark != 0xC707 {
+    if s[0] != 0xC7 {
+        return Judged::Bad(Fault::Mark);
+    }
+    if s[1] != 0x07 {
         return Judged::Bad(Fault::Mark);
     }
     let length = digits::from_four(s[4], s[5], s[6], s[7]);

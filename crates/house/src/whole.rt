@@ -32,7 +32,7 @@ pub fn read_record(place: Place, s: &[u8]) -> AtHand
 pub fn data_of(said: Record, s: &[u8]) -> &[u8]
     ensures { λ r. ⌜ now r ≡ dataIn said (now (s .entry)) ⌝ }
 {
-    if s.len() <= 8 {
+    if s.len() < 8 {
         return &s[0..0];
     }
     let n = head::length_of(said);

@@ -59,21 +59,6 @@ fn with_other(t: Tally) -> Tally {
     }
 }
 
-// After none, and after 6 to 9, the TP is over.
-fn goes_on(find: Find) -> bool {
-    match find {
-        Find::Nothing => false,
-        Find::Refused => false,
-        Find::Notice(n) => 9 < n,
-        Find::Low {
-            content: _,
-            start: _,
-            len: _,
-        } => true,
-        Find::Ordinary { content: _, len: _ } => true,
-    }
-}
-
 fn next(run: Run, tp: &[u8], room: &mut [u8]) -> Asked
     requires { ⌜ Able (run .receiver) ⌝ }
     ensures { λ r. ⌜ Able (r .run .receiver) ⌝ }
@@ -86,7 +71,7 @@ fn next(run: Run, tp: &[u8], room: &mut [u8]) -> Asked
     let tally = counted(t, find, tp, room);
     Asked {
         run: Run { receiver, tally },
-        goes_on: goes_on(find),
+        goes_on: listing::goes_on(find),
     }
 }
 

@@ -90,15 +90,14 @@ room-is b q n e = (
   leb-true n (length b - q .len) (and-right (kept (length b) q) (leb n (length b - q .len)) e),
 )
 
-module _ (b s : List ℕ) (q : Ring) where
-  pub push-none : room (length b) q (length s) ≡ false → record { ring = q; bytes = b } ≡ pushed b q s
+module _ (b s : List ℕ) (q : Ring) (n : ℕ) (l : length s ≡ n) where
+  pub push-none : room (length b) q n ≡ false → record { ring = q; bytes = b } ≡ pushed b q s
   unfolding pushed
-  push-none e = rw e
+  push-none e = rw (l, e)
 
-  pub push-done : (b′ : List ℕ) → room (length b) q (length s) ≡ true → b′ ≡ written b q s
-      → record { ring = record { head = q .head; len = q .len + length s }; bytes = b′ } ≡ pushed b q s
+  pub push-done : (b′ : List ℕ) → room (length b) q n ≡ true → b′ ≡ written b q s → record { ring = record { head = q .head; len = q .len + n }; bytes = b′ } ≡ pushed b q s
   unfolding pushed longer
-  push-done b′ e f = rw (e, f)
+  push-done b′ e f = rw (l, e, f)
 
 -- nothing
 pub put-none : (b : List ℕ) (q : Ring) → Kept b q → _≡_ {A = Left} (record { ring = q; bytes = b }) (record { ring = longer q 0; bytes = written b q [] })

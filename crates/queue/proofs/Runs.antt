@@ -1,7 +1,7 @@
 -- A ring's bytes written and read in straight runs. Assumes nothing.
 use mathlib.Core.Path.{_≡_, refl, sym, ap, _∙_}
 use mathlib.Core.Bool.{cond}
-use mathlib.Core.Logic.{⊎-elim}
+use mathlib.Core.Logic.{_⊎_, inl, inr, ⊎-elim}
 use Prim.Native.Nat.{ℕ, _+_, _-_, _≤_, _<_, min}
 use native.Mathlib.Nat.{sub-zero}
 use native.Mathlib.Omega.{arith}
@@ -97,13 +97,24 @@ undo b h p =
     let d = length-drop h b in
     rw (drop-at (drop h b) (take h b) (length b - h) d, take-at (drop h b) (take h b) (length b - h) d) (take-append-drop h b)
 
--- the index behind what is held
-module _ (cap head len : ℕ) (p : head ≤ cap) where
-  pub tail-past : cap - head ≤ len → len - (cap - head) ≡ cond (leb cap (head + len)) (head + len - cap) (head + len)
-  tail-past h = let e : len - (cap - head) ≡ head + len - cap = omega arith in e ∙ rw (le-leb cap (head + len) (omega arith)) refl
+-- the index of place i: past the buffer's end, or before it
+module _ (cap head i : ℕ) (p : head ≤ cap) where
+  pub place-past : cap - head ≤ i → i - (cap - head) ≡ cond (leb cap (head + i)) (head + i - cap) (head + i)
+  place-past h = let e : i - (cap - head) ≡ head + i - cap = omega arith in e ∙ rw (le-leb cap (head + i) (omega arith)) refl
 
-  pub tail-before : len < cap - head → head + len ≡ cond (leb cap (head + len)) (head + len - cap) (head + len)
-  tail-before h = rw (lt-leb cap (head + len) (omega arith)) refl
+  pub place-before : i < cap - head → head + i ≡ cond (leb cap (head + i)) (head + i - cap) (head + i)
+  place-before h = rw (lt-leb cap (head + i) (omega arith)) refl
+
+  module _ (at : ℕ) (a : at ≡ cond (leb cap (head + i)) (head + i - cap) (head + i)) where
+    pub placed : (cap + at ≡ head + i) ⊎ ((at ≡ head + i) × (at < cap))
+    placed =
+        ⊎-elim
+        (λ h. let e : at ≡ head + i - cap = a ∙ rw (le-leb cap (head + i) h) refl in inl (omega arith))
+        (λ h. let e : at ≡ head + i = a ∙ rw (lt-leb cap (head + i) h) refl in inr (e, omega arith))
+        (split cap (head + i))
+
+    pub place-in : i < cap → at < cap
+    place-in h = ⊎-elim (λ g. omega arith) (λ g. g .1) placed
 
 -- what was written, as an equation of the buffer
 is-written : (b s b′ : List ℕ) (q : Ring) → Kept b q → q .len + length s ≤ length b
@@ -116,17 +127,16 @@ is-written b s b′ q w p e =
     rw (← e, ← m) (sym (undo b′ (q .head) (omega arith)))
 
 module _ (b s : List ℕ) (q : Ring) (w : Kept b q) (p : length s ≤ length b - q .len) where
-  write-past : (b′ : List ℕ) → length b ≤ q .head + q .len → b′ ≡ paste b (q .head + q .len - length b) s (length s) → b′ ≡ written b q s
-  write-past b′ h c =
+  -- behind what is held, in one run
+  pub write-run : (b′ : List ℕ) (at : ℕ) → at ≡ cond (leb (length b) (q .head + q .len)) (q .head + q .len - length b) (q .head + q .len)
+      → at + length s ≤ length b → b′ ≡ paste b at s (length s) → b′ ≡ written b q s
+  write-run b′ at a r e =
       let wh = w .head in
       let wl = w .len in
-      let t : ℕ = q .head + q .len - length b in
-      is-written b s b′ q w (omega arith) (rw c (before b s (q .head) (q .len) t (q .head - (t + length s)) (omega arith) wh (omega arith)))
-
-  write-one : (b′ : List ℕ) → q .head + q .len + length s ≤ length b → b′ ≡ paste b (q .head + q .len) s (length s) → b′ ≡ written b q s
-  write-one b′ h c =
-      let wl = w .len in
-      is-written b s b′ q w (omega arith) (rw c (after b s (q .head) (q .len) h))
+      ⊎-elim
+      (λ h. is-written b s b′ q w (omega arith) (rw e (before b s (q .head) (q .len) at (q .head - (at + length s)) (omega arith) wh (omega arith))))
+      (λ h. is-written b s b′ q w (omega arith) (rw (e, h .0) (after b s (q .head) (q .len) (omega arith))))
+      (placed (length b) (q .head) (q .len) wh at a)
 
   write-two : (b₁ b₂ : List ℕ) (k : ℕ) → q .head + q .len + k ≡ length b → k < length s → b₁ ≡ paste b (q .head + q .len) s k
       → b₂ ≡ paste b₁ 0 (take (length s - k) (drop k s)) (length s - k) → b₂ ≡ written b q s
@@ -149,14 +159,12 @@ module _ (b s : List ℕ) (q : Ring) (w : Kept b q) (p : length s ≤ length b -
       let wh = w .head in
       let wl = w .len in
       ⊎-elim
-      (λ h. let a′ : at ≡ q .head + q .len - length b = a ∙ rw (le-leb (length b) (q .head + q .len) h) refl in
-      write-past b₂ h (all (omega arith) ∙ ap (λ (z : ℕ). paste b z s (length s)) a′))
-      (λ h. let a′ : at ≡ q .head + q .len = a ∙ rw (lt-leb (length b) (q .head + q .len) h) refl in
-      ⊎-elim
-      (λ g. write-one b₂ g (all (omega arith) ∙ ap (λ (z : ℕ). paste b z s (length s)) a′))
-      (λ g. write-two b₁ b₂ k (omega arith) (omega arith) (e₁ ∙ ap (λ (z : ℕ). paste b z s k) a′) e₂)
-      (split (q .head + q .len + length s) (length b)))
-      (split (length b) (q .head + q .len))
+      (λ g. write-run b₂ at a g (all (omega arith)))
+      (λ g. ⊎-elim
+      (λ h. absurd (omega arith))
+      (λ h. write-two b₁ b₂ k (omega arith) (omega arith) (e₁ ∙ ap (λ (z : ℕ). paste b z s k) (h .0)) e₂)
+      (placed (length b) (q .head) (q .len) wh at a))
+      (split (at + length s) (length b))
     where
       all : k ≡ length s → b₂ ≡ paste b at s (length s)
       all l =

@@ -1,5 +1,5 @@
 -- Laws of bytes taken off what a ring holds. Assumes nothing.
-use mathlib.Core.Path.{_≡_, refl, sym, _∙_}
+use mathlib.Core.Path.{_≡_, refl, sym, ap, _∙_}
 use mathlib.Core.Bool.{Bool, true, false, cond}
 use mathlib.Core.Logic.{⊎-elim}
 use mathlib.Core.List.{List, _++_, append-assoc}
@@ -13,7 +13,7 @@ use borrow.Author.Tests.{le-leb, lt-leb, leb-true, leb-false}
 use Rattle.queue.specs.declared.Ring.{Ring}
 use Rattle.queue.specs.Ring.{around, held, Kept, kept, wrap, off, place, popped}
 use Rattle.queue.proofs.Copies.{split}
-use Rattle.queue.proofs.Runs.{rest-held, turn-on, turn-past}
+use Rattle.queue.proofs.Runs.{rest-held, turn-on, turn-past, placed}
 use Rattle.queue.proofs.Puts.{and-left, and-right, is-kept}
 
 -- ---- taking
@@ -132,14 +132,23 @@ getD-past : (x y : List ℕ) (i j : ℕ) → i ≡ length x + j → getD (x ++ y
 getD-past x y i j e = rw e (getD-append-add x y j 0)
 
 module _ (b : List ℕ) (q : Ring) (i : ℕ) (p : i < q .len) where
-  pub byte-first : i < length b - q .head → getD b (q .head + i) 0 ≡ getD (held b q) i 0
+  byte-first : i < length b - q .head → getD b (q .head + i) 0 ≡ getD (held b q) i 0
   unfolding held around
   byte-first r =
       let k : i < length (drop (q .head) b) = omega (arith, length-drop (q .head) b) in
       sym (getD-take (q .len) (drop (q .head) b ++ take (q .head) b) i 0 p ∙ List·getD-append (drop (q .head) b) (take (q .head) b) 0 i k ∙ getD-drop (q .head) b i 0)
 
-  pub byte-past : (j : ℕ) → i ≡ length b - q .head + j → j < q .head → getD b j 0 ≡ getD (held b q) i 0
+  byte-past : (j : ℕ) → i ≡ length b - q .head + j → j < q .head → getD b j 0 ≡ getD (held b q) i 0
   unfolding held around
   byte-past j e r =
       sym (getD-take (q .head) b j 0 r)
       ∙ sym (getD-take (q .len) (drop (q .head) b ++ take (q .head) b) i 0 p ∙ getD-past (drop (q .head) b) (take (q .head) b) i j (omega (arith, length-drop (q .head) b)))
+
+  pub byte-is : Kept b q → (at : ℕ) → at ≡ cond (leb (length b) (q .head + i)) (q .head + i - length b) (q .head + i) → getD b at 0 ≡ getD (held b q) i 0
+  byte-is w at a =
+      let wh = w .head in
+      let wl = w .len in
+      ⊎-elim
+      (λ h. byte-past at (omega arith) (omega arith))
+      (λ h. ap (λ (z : ℕ). getD b z 0) (h .0) ∙ byte-first (omega arith))
+      (placed (length b) (q .head) i wh at a)

@@ -75,16 +75,16 @@ fn has_room(cap: usize, q: Ring, n: usize) -> bool
     n <= cap - q.len
 }
 
-// The index behind what the ring holds.
-fn tail_of(cap: usize, q: Ring) -> usize
-    requires { ⌜ (q .head ≤ cap) × (q .len ≤ cap) ⌝ }
-    ensures { λ r. ⌜ r ≡ cond (leb cap (q .head + q .len)) (q .head + q .len - cap) (q .head + q .len) ⌝ }
+// The index of place i of what the ring holds; place len is the one behind it.
+fn place_of(cap: usize, q: Ring, i: usize) -> usize
+    requires { ⌜ q .head ≤ cap ⌝ }
+    ensures { λ r. ⌜ r ≡ cond (leb cap (q .head + i)) (q .head + i - cap) (q .head + i) ⌝ }
 {
     let first = cap - q.head;
-    if first <= q.len {
-        return q.len - first;
+    if first <= i {
+        return i - first;
     }
-    q.head + q.len
+    q.head + i
 }
 
 // Writes src behind what the ring holds, up to the buffer's end and then from its start.
@@ -94,9 +94,9 @@ fn write(buf: &mut [u8], q: Ring, src: &[u8])
     ensures { λ _. ⌜ now (buf .exit) ≡ written (now (buf .entry)) q (now (src .entry)) ⌝ }
 {
     let cap = buf.len();
-    let at = tail_of(cap, q);
-    let first = clamped(cap, at, src.len());
-    copy_run(buf, at, src, first);
+    let tail = place_of(cap, q, q.len);
+    let first = clamped(cap, tail, src.len());
+    copy_run(buf, tail, src, first);
     copy_run(buf, 0, &src[first..], src.len() - first);
 }
 
@@ -111,6 +111,35 @@ pub fn push(buf: &mut [u8], q: Ring, src: &[u8]) -> Ring
     Ring {
         head: q.head,
         len: q.len + src.len(),
+    }
+}
+
+// Writes six bytes behind what the ring holds, in one run where they fit before the buffer's end.
+fn write_six(buf: &mut [u8], q: Ring, h: [u8; 6])
+    requires { ⌜ Kept (now buf) q ⌝ }
+    requires { ⌜ 6 ≤ length (now buf) - q .len ⌝ }
+    ensures { λ _. ⌜ now (buf .exit) ≡ written (now (buf .entry)) q h ⌝ }
+{
+    let cap = buf.len();
+    let tail = place_of(cap, q, q.len);
+    if cap - tail < 6 {
+        write(buf, q, &h);
+        return;
+    }
+    copy_run(buf, tail, &h, 6);
+}
+
+// Puts six bytes behind what the ring holds, if they fit.
+pub fn push_six(buf: &mut [u8], q: Ring, h: [u8; 6]) -> Ring
+    ensures { λ r. ⌜ record { ring = r; bytes = now (buf .exit) } ≡ pushed (now (buf .entry)) q h ⌝ }
+{
+    if !has_room(buf.len(), q, 6) {
+        return q;
+    }
+    write_six(buf, q, h);
+    Ring {
+        head: q.head,
+        len: q.len + 6,
     }
 }
 
@@ -185,13 +214,7 @@ fn byte_at(buf: &[u8], q: Ring, i: usize) -> u8
     requires { ⌜ i < q .len ⌝ }
     ensures { λ r. ⌜ r ≡ getD (held (now (buf .entry)) q) i 0 ⌝ }
 {
-    let first = buf.len() - q.head;
-    if i < first {
-        let at = q.head + i;
-        return buf[at];
-    }
-    let at = i - first;
-    buf[at]
+    buf[place_of(buf.len(), q, i)]
 }
 
 fn has_six(cap: usize, q: Ring, i: usize) -> bool
@@ -245,11 +268,11 @@ pub fn six_at(buf: &[u8], q: Ring, i: usize) -> [u8; 6]
     if !has_six(cap, q, i) {
         return [0; 6];
     }
-    let first = cap - q.head;
-    if first <= i {
-        return six_of(buf, i - first);
+    let ahead = cap - q.head;
+    if ahead <= i {
+        return six_of(buf, i - ahead);
     }
-    if first < i + 6 {
+    if ahead < i + 6 {
         return six_apart(buf, q, i);
     }
     six_of(buf, q.head + i)

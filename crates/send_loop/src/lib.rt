@@ -50,6 +50,7 @@ fn turn(
     out: &mut [u8],
 ) -> Run
     requires { ⌜ Sound (run .sender) ⌝ }
+    requires { ⌜ length (now sp) ≡ lengthOf said ⌝ }
     requires { ⌜ run .from + 8 + lengthOf said < 18446744073709551616 ⌝ }
     ensures { λ r. ⌜ Sound (r .sender) ⌝ }
     ensures { λ r. ⌜ r .from ≡ run .from + 8 + lengthOf said ⌝ }
@@ -61,7 +62,7 @@ fn turn(
     Run {
         sender,
         at: t.at,
-        from: run.from + 8 + house::length_of(said),
+        from: run.from + 8 + sp.len(),
         till: run.till,
         gone: run.gone,
     }

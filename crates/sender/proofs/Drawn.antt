@@ -11,7 +11,7 @@ use lib.Seq.{paste, take-length, length-paste, length-take-le, drop-at}
 use borrow.Author.Tests.{le-ltb, lt-ltb, eq-eqb, ne-eqb}
 use Rattle.queue.specs.declared.Ring.{Ring}
 use Rattle.queue.specs.Ring.{copied, held, off, Kept}
-use Rattle.queue.proofs.Copies.{copied-all}
+use Rattle.queue.proofs.Copies.{copied-all, length-copied}
 use Rattle.queue.proofs.Puts.{length-held}
 use Rattle.queue.proofs.Takes.{wrapped}
 use Rattle.wire.specs.Wire.{tpHeader}
@@ -53,9 +53,6 @@ offset-none low first r h = rw (le-ltb first r h)
 topped : (d₂ h x y : List ℕ) → length x ≡ 4 → length h ≡ 4 → d₂ ≡ x ++ y → paste d₂ 0 h (length h) ≡ h ++ y
 topped d₂ h x y lx lh e = rw (take-length, e, lh, drop-at x y 4 lx) refl
 
-pub headed : (d h d′ : List ℕ) → length h ≡ 4 → 4 ≤ length d → d′ ≡ copied d 0 h → length d′ ≡ length d
-headed d h d′ l p e = ap length (e ∙ copied-all d h 0 (omega arith)) ∙ length-paste d 0 h (length h) (omega arith) (omega arith)
-
 module _ (s : Sender) (w : Sound s) (low own d d₁ d₂ : List ℕ) (t u : Ring) (at n ow : ℕ)
     (el : length low ≡ s .setting .lowspace) (eo : length own ≡ s .setting .space) (ed : length d ≡ s .setting .payload + 4)
     (p : Parted (s .setting .payload) low (s .low) d d₁ t at) (o : Filled own (s .ordinary) (s .owed) d₁ at d₂ u n ow) where
@@ -64,6 +61,9 @@ module _ (s : Sender) (w : Sound s) (low own d d₁ d₂ : List ℕ) (t u : Ring
 
   pub gone-few : n ≤ s .ordinary .len
   gone-few = omega (arith, o .gone, length-held own (s .ordinary) kept-own)
+
+  pub drawn-length : (d₃ h : List ℕ) → d₃ ≡ copied d₂ 0 h → length d₃ ≡ length d
+  drawn-length d₃ h e = rw (e, length-copied d₂ h 0, o .same, p .same)
 
   pub finished : (first : Bool) (off′ rest : ℕ) (h d₃ : List ℕ) → off′ ≡ offset (at - 4) (s .owed + s .rest) (s .setting .payload + 4 - at)
       → first ≡ ltb 4 at → h ≡ tpHeader (s .setting .stream) first off′ → d₃ ≡ copied d₂ 0 h → rest ≡ under n (held own (s .ordinary)) (s .rest)
@@ -111,6 +111,7 @@ module _ (s : Sender) (w : Sound s) (low own d d₁ d₂ : List ℕ) (t u : Ring
       record {
         payload-least = w .payload-least;
         payload-most = w .payload-most;
+        stream = w .stream;
         piece-least = w .piece-least;
         piece-most = w .piece-most;
         lowspace = w .lowspace;

@@ -1,8 +1,8 @@
 -- Laws of headers read from queued bytes. Assumes nothing.
-use mathlib.Core.Path.{_≡_, ap, _∙_}
+use mathlib.Core.Path.{_≡_, refl, ap, _∙_}
 use mathlib.Core.Bool.{true, false, _&&_}
 use mathlib.Core.List.{List, [], _∷_}
-use Prim.Native.Nat.{ℕ, _+_, _≤_, _<_}
+use Prim.Native.Nat.{ℕ, _+_, _*_, _/_, _%_, _≤_, _<_}
 use native.Mathlib.Omega.{arith}
 use lib.Dec.{leb, ltb, eqb}
 use lib.ListN.{length, getD}
@@ -19,6 +19,28 @@ use Rattle.sender.proofs.Bools.{and-left, cond-case}
 
 pub number-six : (b : List ℕ) → length b ≡ 6 → number 0 (getD b 0 0 ∷ getD b 1 0 ∷ getD b 2 0 ∷ getD b 3 0 ∷ getD b 4 0 ∷ getD b 5 0 ∷ []) ≡ number 0 b
 number-six b l = ap (number 0) (six b (omega arith) ∙ take-all 6 b (omega arith))
+
+-- the length stands in three of them
+behind-nibble : (h x : ℕ) → h / 4294967296 ≡ x → h / 68719476736 ≡ x / 16
+behind-nibble h x e = omega arith
+
+behind-low-nibble : (h x : ℕ) → h / 256 ≡ x → h / 4096 ≡ x / 16
+behind-low-nibble h x e = omega arith
+
+high-nibble : (a b : ℕ) → b < 256 → (a * 256 + b) / 16 % 16 ≡ b / 16
+high-nibble a b h = omega arith
+
+high-bytes : (x d e : ℕ) → d < 256 → e < 256 → ((x * 256 + d) * 256 + e) / 16 % 4096 ≡ d * 16 + e / 16
+high-bytes x d e hd he = omega arith
+
+pub size-bytes : (a b c d e f : ℕ) → b < 256 → c < 256 → d < 256 → e < 256 → f < 256
+    → b / 16 * 4096 + d * 16 + e / 16 ≡ sizeIn (number 0 (a ∷ b ∷ c ∷ d ∷ e ∷ f ∷ []))
+unfolding sizeIn
+size-bytes a b c d e f hb hc hd he hf =
+    let h : ℕ = number 0 (a ∷ b ∷ c ∷ d ∷ e ∷ f ∷ []) in
+    let u = behind-nibble h (a * 256 + b) (omega arith) in
+    let v = behind-low-nibble h ((((a * 256 + b) * 256 + c) * 256 + d) * 256 + e) (omega arith) in
+    rw (u, v, high-nibble a b hb, high-bytes ((a * 256 + b) * 256 + c) d e hd he) (omega arith)
 
 -- ---- an EP that could have been accepted
 
@@ -60,6 +82,10 @@ module _ (P : ℕ) (q : List ℕ) where
   pub next-fits : (left : ℕ) → lowAt P q < left → lowAt P q ≡ next P q left
   unfolding next
   next-fits left h = rw (lt-ltb (lowAt P q) left h)
+
+  pub next-none : (left : ℕ) → 0 ≡ lowAt P q → 0 ≡ next P q left
+  unfolding next
+  next-none left e = cond-case (λ n. 0 ≡ n) (ltb (lowAt P q) left) (lowAt P q) 0 (λ t. e) (λ t. refl)
 
   pub next-not : (left : ℕ) → left ≤ lowAt P q → 0 ≡ next P q left
   unfolding next

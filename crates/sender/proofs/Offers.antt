@@ -103,6 +103,7 @@ module _ (s : Sender) (low ordinary : List ℕ) (c : ℕ) (d : List ℕ) where
       record {
         payload-least = w .payload-least;
         payload-most = w .payload-most;
+        stream = w .stream;
         piece-least = w .piece-least;
         piece-most = w .piece-most;
         lowspace = w .lowspace;
@@ -160,6 +161,7 @@ module _ (s : Sender) (low ordinary : List ℕ) (c : ℕ) (d : List ℕ) where
       record {
         payload-least = w .payload-least;
         payload-most = w .payload-most;
+        stream = w .stream;
         piece-least = w .piece-least;
         piece-most = w .piece-most;
         lowspace = w .lowspace;

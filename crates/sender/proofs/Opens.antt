@@ -13,6 +13,7 @@ use Rattle.sender.proofs.Bools.{and-left, and-right}
 pub record Allowed (tp stream F : ℕ) : Type 0 where
   pub tp-least : 16 ≤ tp
   pub tp-most : tp ≤ 2051
+  pub stream-most : stream ≤ 15
   pub piece-least : 1 ≤ F
   pub piece-most : F ≤ 65535
 
@@ -25,6 +26,7 @@ limits tp stream F e =
     record {
       tp-least = leb-true 16 tp (and-left (leb 16 tp) _ e);
       tp-most = leb-true tp 2051 (and-left (leb tp 2051) _ e₁);
+      stream-most = leb-true stream 15 (and-left (leb stream 15) _ e₂);
       piece-least = leb-true 1 F (and-left (leb 1 F) _ e₃);
       piece-most = leb-true F 65535 (and-right (leb 1 F) _ e₃);
     }
@@ -56,6 +58,7 @@ module _ (tp stream F low ordinary : ℕ) where
           record {
             payload-least = omega arith;
             payload-most = omega arith;
+            stream = l .stream-most;
             piece-least = l .piece-least;
             piece-most = l .piece-most;
             lowspace = g;

@@ -35,11 +35,12 @@ unfoldable pub opened : ℕ → ℕ → ℕ → ℕ → ℕ → Answer
 opened tp stream F low ordinary =
     cond (allowed tp stream F && small low ordinary) (Done (fresh tp stream F low ordinary)) (Refused (refusal 1))
 
--- P is 12 to 2,047; the queued bytes lie in their buffers; at most 5 fill bytes are owed;
+-- P is 12 to 2,047, the stream 0 to 15; the queued bytes lie in their buffers; at most 5 fill bytes are owed;
 -- the EP under way is queued as far as it is not drawn
 pub record Sound (s : Sender) : Type 0 where
   pub payload-least : 12 ≤ s .setting .payload
   pub payload-most : s .setting .payload ≤ 2047
+  pub stream : s .setting .stream ≤ 15
   pub piece-least : 1 ≤ s .setting .piece
   pub piece-most : s .setting .piece ≤ 65535
   pub lowspace : s .setting .lowspace ≤ 1048576

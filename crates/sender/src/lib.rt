@@ -30,7 +30,7 @@ pub enum Refusal {
 // What the opening set: P, the stream, F, and the lengths of the two queue buffers. Public as a type only: its fields are private.
 pub struct Setting {
     payload: usize,
-    stream: u8,
+    stream: usize,
     piece: usize,
     lowspace: usize,
     space: usize,
@@ -66,7 +66,7 @@ pub fn open(tp: usize, stream: u8, piece: usize, low: &[u8], ordinary: &[u8]) ->
     }
     let setting = Setting {
         payload: tp - 4,
-        stream,
+        stream: stream as usize,
         piece,
         lowspace: low.len(),
         space: ordinary.len(),
@@ -173,7 +173,7 @@ fn filled(s: Sender, low: &[u8], ordinary: &[u8], tp: &mut [u8]) -> Sender
     let o = ordinary::ordinary_part(ordinary, q, s.owed, tp, at);
     let u = o.ring;
     let offset = ordinary::offset_of(at - 4, s.owed + s.rest, g.payload + 4 - at);
-    let h = wire::tp_header_of(g.stream, 4 < at, offset);
+    let h = wire::tp_header_of(g.stream as u8, 4 < at, offset);
     queue::copy_at(tp, 0, &h);
     let rest = ordinary::rest_after(ordinary, q, s.rest, o.gone);
     Sender {

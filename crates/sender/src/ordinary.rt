@@ -55,8 +55,24 @@ pub struct Own {
     pub owed: usize,
 }
 
-// Writes ordinary bytes into a TP from place at to its end.
-pub fn ordinary_part(buf: &[u8], q: Ring, owed: usize, tp: &mut [u8], at: usize) -> Own
+// Writes owed and queued bytes into a TP from place at to its end: the queue has enough.
+fn queued_part(buf: &[u8], q: Ring, owed: usize, tp: &mut [u8], at: usize) -> Own
+    requires { ⌜ Kept (now buf) q ⌝ }
+    requires { ⌜ (at ≤ length (now tp)) × (length (now tp) ≤ 2051) × (owed ≤ length (now tp) - at) × (length (now tp) - at - owed ≤ q .len) ⌝ }
+    ensures { λ r. ⌜ Filled (now (buf .entry)) q owed (now (tp .entry)) at (now (tp .exit)) (r .ring) (r .gone) (r .owed) ⌝ }
+{
+    let n = tp.len() - at - owed;
+    queue::fill_at(tp, at, owed, 0);
+    let t = queue::pop_into(buf, q, tp, at + owed, n);
+    Own {
+        ring: t,
+        gone: n,
+        owed: 0,
+    }
+}
+
+// The same from any queue, with fill behind what it has.
+fn padded_part(buf: &[u8], q: Ring, owed: usize, tp: &mut [u8], at: usize) -> Own
     requires { ⌜ Kept (now buf) q ⌝ }
     requires { ⌜ (at ≤ length (now tp)) × (length (now tp) ≤ 2051) × (owed ≤ 5) ⌝ }
     ensures { λ r. ⌜ Filled (now (buf .entry)) q owed (now (tp .entry)) at (now (tp .exit)) (r .ring) (r .gone) (r .owed) ⌝ }
@@ -73,6 +89,21 @@ pub fn ordinary_part(buf: &[u8], q: Ring, owed: usize, tp: &mut [u8], at: usize)
         gone: n,
         owed: owed - k + more,
     }
+}
+
+// Writes ordinary bytes into a TP from place at to its end.
+pub fn ordinary_part(buf: &[u8], q: Ring, owed: usize, tp: &mut [u8], at: usize) -> Own
+    requires { ⌜ Kept (now buf) q ⌝ }
+    requires { ⌜ (at ≤ length (now tp)) × (length (now tp) ≤ 2051) × (owed ≤ 5) ⌝ }
+    ensures { λ r. ⌜ Filled (now (buf .entry)) q owed (now (tp .entry)) at (now (tp .exit)) (r .ring) (r .gone) (r .owed) ⌝ }
+{
+    let r = tp.len() - at;
+    if owed <= r {
+        if r - owed <= q.len {
+            return queued_part(buf, q, owed, tp, at);
+        }
+    }
+    padded_part(buf, q, owed, tp, at)
 }
 
 // Where the first ordinary EP begins, behind a low-latency part of low bytes and first ordinary ones; 2047 if not here.

@@ -15,6 +15,9 @@ fn next_low(payload: usize, buf: &[u8], q: Ring, left: usize) -> usize
     requires { ⌜ q .len ≤ 1048576 ⌝ }
     ensures { λ r. ⌜ r ≡ next payload (held (now (buf .entry)) q) left ⌝ }
 {
+    if q.len < 6 {
+        return 0;
+    }
     let n = crate::reading::low_at(payload, buf, q);
     if n < left {
         return n;

@@ -82,6 +82,16 @@ pub fn least(a: usize, b: usize) -> usize
     b
 }
 
+// The length in the header at place i of what the ring holds. Only the three bytes that have it are read.
+fn size_at(buf: &[u8], q: Ring, i: usize) -> usize
+    requires { ⌜ Kept (now buf) q ⌝ }
+    requires { ⌜ i + 6 ≤ q .len ⌝ }
+    ensures { λ r. ⌜ (r ≡ sizeIn (headAt (drop i (held (now (buf .entry)) q)))) × (r < 65536) ⌝ }
+{
+    let b = queue::six_at(buf, q, i);
+    (b[1] / 16) as usize * 4096 + b[3] as usize * 16 + (b[4] / 16) as usize
+}
+
 // The bytes of the EP at place at, at most what is held.
 pub fn span_at(buf: &[u8], q: Ring, at: usize) -> usize
     requires { ⌜ Kept (now buf) q ⌝ }
@@ -92,5 +102,5 @@ pub fn span_at(buf: &[u8], q: Ring, at: usize) -> usize
     if left < 6 {
         return left;
     }
-    least(6 + size_in(head_at(buf, q, at)), left)
+    least(6 + size_at(buf, q, at), left)
 }

@@ -5,18 +5,15 @@ use Rattle.golay.specs.Golay.{syndrome}
 use Rattle.golay.proofs.syndrome_of.Statement.{statement}
 use Rattle.golay.proofs.syndrome_of.Tie as tie
 
-cast-combined : tie.Need-cast-combined
-cast-combined c = search needs
-
-combined-requires : tie.Need-combined-requires
-combined-requires c κs = search needs
+number-behind-requires : tie.Need-number-behind-requires
+number-behind-requires c κs = search needs
 
 cast-result : tie.Need-cast-result
 cast-result c = search needs
 
 returns : tie.Need-returns
 unfolding syndrome
-returns c = rw (c .combined .ensures)
+returns c = rw (c .number-behind .ensures)
 
 pub syndrome-of-spec : {M : Type 1} → statement M
-syndrome-of-spec = tie.close (tie.spec cast-combined combined-requires cast-result returns)
+syndrome-of-spec = tie.close (tie.spec number-behind-requires cast-result returns)

@@ -1,5 +1,5 @@
 -- `queue::push` meets its contract: refused, or written. Assumes nothing.
-use mathlib.Core.Path.{sym, _∙_}
+use mathlib.Core.Path.{refl, sym, _∙_}
 use native.Mathlib.Omega.{arith}
 use borrow.Author.Tests.{not-true, not-false}
 use Rattle.queue.proofs.Puts.{room-is, push-none, push-done}
@@ -13,7 +13,7 @@ has-room-requires c κs = search needs
 returns : tie.Need-returns
 returns c =
     let a = c .before .before .before .before .args in
-    push-none (a .buf .now) (a .src .now) (a .q) (sym (c .before .has-room .ensures) ∙ not-true (c .before .has-room .result) (c .if1 .taken))
+    push-none (a .buf .now) (a .src .now) (a .q) _ refl (sym (c .before .has-room .ensures) ∙ not-true (c .before .has-room .result) (c .if1 .taken))
 
 write-requires : tie.Need-write-requires
 write-requires c κs =
@@ -34,7 +34,7 @@ same-length c = search needs
 returns-2 : tie.Need-returns-2
 returns-2 c =
     let a = c .before .before .before .before .before .before .before .before .before .args in
-    push-done (a .buf .now) (a .src .now) (a .q) _ (sym (c .before .before .before .before .before .before .has-room .ensures) ∙ not-false (c .before .before .before .before .before .before .has-room .result) (c .before .before .before .before .before .if1 .left)) (c .before .before .before .write .ensures)
+    push-done (a .buf .now) (a .src .now) (a .q) _ refl _ (sym (c .before .before .before .before .before .before .has-room .ensures) ∙ not-false (c .before .before .before .before .before .before .has-room .result) (c .before .before .before .before .before .if1 .left)) (c .before .before .before .write .ensures)
 
 pub push-spec : {M : Type 1} → statement M
 push-spec =

@@ -15,8 +15,8 @@ has-six-requires c κs = search needs
 returns : tie.Need-returns
 returns c = let s = c .before .before .before .args in six-none (s .buf .now) (s .q) (s .i) (sym (c .before .has-six .ensures) ∙ not-true (c .before .has-six .result) (c .if1 .taken))
 
-sub-first : tie.Need-sub-first
-sub-first c =
+sub-ahead : tie.Need-sub-ahead
+sub-ahead c =
     let s = c .before .before .before .before .args in
     let w = six-is (s .buf .now) (s .q) (s .i) (sym (c .before .before .has-six .ensures) ∙ not-false (c .before .before .has-six .result) (c .before .if1 .left)) in
     let h = w .0 .head in
@@ -79,7 +79,7 @@ six-at-spec =
     (tie.spec
     has-six-requires
     returns
-    sub-first
+    sub-ahead
     six-of-requires
     returns-2
     add-if3

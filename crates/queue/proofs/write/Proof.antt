@@ -4,8 +4,8 @@ use borrow.Author.Needs.{needs}
 use Rattle.queue.proofs.write.Statement.{statement}
 use Rattle.queue.proofs.write.Tie as tie
 
-tail-of-requires : tie.Need-tail-of-requires
-tail-of-requires c κs = search needs
+place-of-requires : tie.Need-place-of-requires
+place-of-requires c κs = search needs
 
 clamped-requires : tie.Need-clamped-requires
 clamped-requires c κs = search needs
@@ -34,13 +34,13 @@ same-length c = search needs
 returns : tie.Need-returns
 returns c =
     let s = c .before .before .before .before .before .before .before .before .before .before .before .before .before in
-    write-runs (s .args .buf .now) (s .args .src .now) (s .args .q) (s .pre .0) (s .pre .1) _ _ _ _ (c .before .before .before .before .before .before .before .before .before .before .tail-of .ensures) (c .before .before .before .before .before .before .before .before .before .clamped .ensures) (c .before .before .before .before .before .before .before .copy-run .ensures) (c .before .before .copy-run2 .ensures)
+    write-runs (s .args .buf .now) (s .args .src .now) (s .args .q) (s .pre .0) (s .pre .1) _ _ _ _ (c .before .before .before .before .before .before .before .before .before .before .place-of .ensures) (c .before .before .before .before .before .before .before .before .before .clamped .ensures) (c .before .before .before .before .before .before .before .copy-run .ensures) (c .before .before .copy-run2 .ensures)
 
 pub write-spec : {M : Type 1} → statement M
 write-spec =
     tie.close
     (tie.spec
-    tail-of-requires
+    place-of-requires
     clamped-requires
     copy-run-requires
     sub-copy-run

@@ -1,11 +1,12 @@
 -- `send_loop::turns` meets its contract: each turn begins further on in the block. The measure is what is left of it.
 -- Assumes nothing.
 use Prim.Native.Nat.{_-_, _≤_}
-use mathlib.Core.Path.{_≡_, refl, _∙_}
+use mathlib.Core.Path.{_≡_, refl, ap, sym, _∙_}
 use native.Mathlib.Omega.{arith}
 use borrow.Author.Needs.{needs}
 use lib.ListN.{length}
 use Rattle.house.specs.declared.Place.the-variants.{Sending}
+use Rattle.house.proofs.Slicing.{whole-data}
 use Rattle.sender.specs.Opening.{Sound}
 use Rattle.send_loop.proofs.Laws.{whole-within}
 use Rattle.send_loop.proofs.turns.Statement.{statement}
@@ -47,7 +48,7 @@ data-of-requires c κs = search needs
 turn-requires : tie.Need-turn-requires Inv-loop μ-loop
 turn-requires c κs =
     let within = whole-within (c .before .before .before .before .before .before .before .before .before .before .before .before .before .before .before .before .args .block .now) (record { from = c .before .before .before .before .before .before .before .before .before .before .before .loop .run .from; till = c .before .before .before .before .before .before .before .before .before .before .before .loop .run .till }) Sending _ _ _ (c .before .before .before .before .before .before .before .before .bytes-of .ensures) (c .before .before .before .before .before .before .before .read-record .ensures) (c .before .before .before .before .before .said .given .1) in
-    (c .before .before .before .before .before .before .before .before .before .before .before .loop .inv .0, omega (arith, within, c .before .before .before .before .before .before .before .before .before .before .before .before .before .before .before .before .good .1 .1 .1 .1 .0 .0))
+    (c .before .before .before .before .before .before .before .before .before .before .before .loop .inv .0, (ap length (c .before .before .before .data-of .ensures) ∙ whole-data Sending _ _ (sym (c .before .before .before .before .before .before .before .read-record .ensures) ∙ c .before .before .before .before .before .said .given .1), omega (arith, within, c .before .before .before .before .before .before .before .before .before .before .before .before .before .before .before .before .good .1 .1 .1 .1 .0 .0)))
 
 loop-less : tie.Need-loop-less Inv-loop μ-loop
 loop-less c =

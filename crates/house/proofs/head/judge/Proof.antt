@@ -1,23 +1,23 @@
--- `house::head::judge` meets its contract: the mark as a number decides, and the rest is `rule`'s.
+-- `house::head::judge` meets its contract: the two bytes of the mark decide, and the rest is `rule`'s.
 -- Assumes nothing.
-use borrow.Author.Tests.{eq-eqb, ne-eqb}
+use native.Mathlib.Omega.{arith}
 use Rattle.house.specs.Records.{judgedOf}
+use Rattle.house.proofs.Slicing.{other-first, other-second}
 use borrow.Author.Needs.{needs}
 use Rattle.house.proofs.head.judge.Statement.{statement}
 use Rattle.house.proofs.head.judge.Tie as tie
 
-shared-slice-read-from-two : tie.Need-shared-slice-read-from-two
-shared-slice-read-from-two c = search needs
-
-shared-slice-read-from-two-2 : tie.Need-shared-slice-read-from-two-2
-shared-slice-read-from-two-2 c = search needs
-
-from-two-requires : tie.Need-from-two-requires
-from-two-requires c κs = search needs
+shared-slice-read-if1 : tie.Need-shared-slice-read-if1
+shared-slice-read-if1 c = search needs
 
 returns : tie.Need-returns
-unfolding judgedOf
-returns c = rw (← c .before .from-two .ensures, ne-eqb _ _ (c .if1 .taken))
+returns c = let a = c .before .before .before .args in other-first (a .place) (a .s .now) (omega (arith, c .before .shared-slice-known2 .given 1)) (c .if1 .taken)
+
+shared-slice-read-if2 : tie.Need-shared-slice-read-if2
+shared-slice-read-if2 c = search needs
+
+returns-2 : tie.Need-returns-2
+returns-2 c = let a = c .before .before .before .before .before .args in other-second (a .place) (a .s .now) (omega (arith, c .before .shared-slice-known3 .given 1)) (c .if2 .taken)
 
 shared-slice-read-from-four : tie.Need-shared-slice-read-from-four
 shared-slice-read-from-four c = search needs
@@ -43,18 +43,18 @@ shared-slice-read-rule-2 c = search needs
 rule-requires : tie.Need-rule-requires
 rule-requires c κs = search needs
 
-returns-2 : tie.Need-returns-2
+returns-3 : tie.Need-returns-3
 unfolding judgedOf
-returns-2 c = rw (← c .before .before .before .before .before .before .before .before .before .from-two .ensures, eq-eqb _ _ (c .before .before .before .before .before .before .before .before .if1 .left), ← c .before .before .before .from-four .ensures, c .rule .ensures)
+returns-3 c = rw (c .before .before .before .before .before .before .before .before .before .before .if1 .left, c .before .before .before .before .before .before .before .before .if2 .left, ← c .before .before .before .from-four .ensures, c .rule .ensures)
 
 pub judge-spec : {M : Type 1} → statement M
 judge-spec =
     tie.close
     (tie.spec
-    shared-slice-read-from-two
-    shared-slice-read-from-two-2
-    from-two-requires
+    shared-slice-read-if1
     returns
+    shared-slice-read-if2
+    returns-2
     shared-slice-read-from-four
     shared-slice-read-from-four-2
     shared-slice-read-from-four-3
@@ -63,4 +63,4 @@ judge-spec =
     shared-slice-read-rule
     shared-slice-read-rule-2
     rule-requires
-    returns-2)
+    returns-3)

@@ -21,11 +21,8 @@ returns c =
     let l : length (drop (a .at) q) ≡ a .q .len - a .at = length-drop (a .at) q ∙ ap (λ (z : ℕ). z - a .at) (length-held (a .buf .now) (a .q) (c .before .before .before .pre .0)) in
     sym l ∙ span-short (drop (a .at) q) (omega arith)
 
-head-at-requires : tie.Need-head-at-requires
-head-at-requires c κs = search needs
-
-size-in-requires : tie.Need-size-in-requires
-size-in-requires c κs = search needs
+size-at-requires : tie.Need-size-at-requires
+size-at-requires c κs = search needs
 
 add-least : tie.Need-add-least
 add-least c = search needs
@@ -36,10 +33,11 @@ least-requires c κs = search needs
 returns-2 : tie.Need-returns-2
 unfolding span
 returns-2 c =
-    let a = c .before .before .before .before .before .before .args in
+    let s = c .before .before .before .before .before in
+    let a = s .args in
     let q = held (a .buf .now) (a .q) in
-    let l : length (drop (a .at) q) ≡ a .q .len - a .at = length-drop (a .at) q ∙ ap (λ (z : ℕ). z - a .at) (length-held (a .buf .now) (a .q) (c .before .before .before .before .before .before .pre .0)) in
-    rw (c .least .ensures, l, c .before .size-in .ensures .0, c .before .before .head-at .ensures)
+    let l : length (drop (a .at) q) ≡ a .q .len - a .at = length-drop (a .at) q ∙ ap (λ (z : ℕ). z - a .at) (length-held (a .buf .now) (a .q) (s .pre .0)) in
+    rw (c .least .ensures, l, c .before .size-at .ensures .0)
 
 pub span-at-spec : {M : Type 1} → statement M
 span-at-spec =
@@ -47,8 +45,7 @@ span-at-spec =
     (tie.spec
     sub-left
     returns
-    head-at-requires
-    size-in-requires
+    size-at-requires
     add-least
     least-requires
     returns-2)

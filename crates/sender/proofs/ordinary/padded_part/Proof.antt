@@ -1,11 +1,11 @@
--- `ordinary::ordinary_part` meets its contract, by the law `owned`. Assumes nothing.
+-- `ordinary::padded_part` meets its contract, by the law `owned`. Assumes nothing.
 use Prim.Native.Nat.{_-_}
 use native.Mathlib.Omega.{arith}
 use lib.ListN.{length}
 use Rattle.sender.proofs.Stream.{owned, short-least}
 use borrow.Author.Needs.{needs}
-use Rattle.sender.proofs.ordinary.ordinary_part.Statement.{statement}
-use Rattle.sender.proofs.ordinary.ordinary_part.Tie as tie
+use Rattle.sender.proofs.ordinary.padded_part.Statement.{statement}
+use Rattle.sender.proofs.ordinary.padded_part.Tie as tie
 
 sub-r : tie.Need-sub-r
 sub-r c = search needs
@@ -66,8 +66,8 @@ returns c =
     let a = s .args in
     owned (a .buf .now) (a .q) _ (a .owed) (a .tp .now) _ _ _ (a .at) _ _ _ (s .pre .0) (s .pre .1 .0) (c .before .before .before .before .before .before .before .before .before .before .before .before .before .before .least .ensures) (c .before .before .before .before .before .before .before .before .before .before .before .before .fill-at .ensures) (c .before .before .before .before .before .before .before .before .before .least2 .ensures) (c .before .before .before .before .before .before .before .pop-into .ensures) (c .before .before .before .fill-part .ensures) (c .short-of .ensures)
 
-pub ordinary-part-spec : {M : Type 1} → statement M
-ordinary-part-spec =
+pub padded-part-spec : {M : Type 1} → statement M
+padded-part-spec =
     tie.close
     (tie.spec
     sub-r
