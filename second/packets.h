@@ -43,7 +43,6 @@ enum {
 /* TP: stream byte, one Golay word, payload. */
 enum {
     C7_TP_HEADER = 4,
-    C7_PAYLOAD_MAX = C7_TP_MAX - C7_TP_HEADER,
     C7_VERSION_BITS = 0x03,
     C7_LOW_PRESENT = 0x800,
     C7_OFFSET_BITS = 0x7FF,
