@@ -3,6 +3,7 @@ use mathlib.Core.Path.{_≡_, refl, ap, _∙_}
 use mathlib.Core.Bool.{true, false, _&&_}
 use mathlib.Core.List.{List, [], _∷_}
 use Prim.Native.Nat.{ℕ, _+_, _*_, _/_, _%_, _≤_, _<_}
+use native.Mathlib.Nat.{div-div-eq-div-mul}
 use native.Mathlib.Omega.{arith}
 use lib.Dec.{leb, ltb, eqb}
 use lib.ListN.{length, getD}
@@ -21,12 +22,6 @@ pub number-six : (b : List ℕ) → length b ≡ 6 → number 0 (getD b 0 0 ∷ 
 number-six b l = ap (number 0) (six b (omega arith) ∙ take-all 6 b (omega arith))
 
 -- the length stands in three of them
-behind-nibble : (h x : ℕ) → h / 4294967296 ≡ x → h / 68719476736 ≡ x / 16
-behind-nibble h x e = omega arith
-
-behind-low-nibble : (h x : ℕ) → h / 256 ≡ x → h / 4096 ≡ x / 16
-behind-low-nibble h x e = omega arith
-
 high-nibble : (a b : ℕ) → b < 256 → (a * 256 + b) / 16 % 16 ≡ b / 16
 high-nibble a b h = omega arith
 
@@ -38,9 +33,9 @@ pub size-bytes : (a b c d e f : ℕ) → b < 256 → c < 256 → d < 256 → e <
 unfolding sizeIn
 size-bytes a b c d e f hb hc hd he hf =
     let h : ℕ = number 0 (a ∷ b ∷ c ∷ d ∷ e ∷ f ∷ []) in
-    let u = behind-nibble h (a * 256 + b) (omega arith) in
-    let v = behind-low-nibble h ((((a * 256 + b) * 256 + c) * 256 + d) * 256 + e) (omega arith) in
-    rw (u, v, high-nibble a b hb, high-bytes ((a * 256 + b) * 256 + c) d e hd he) (omega arith)
+    let u : h / 4294967296 ≡ a * 256 + b = omega arith in
+    let v : h / 256 ≡ (((a * 256 + b) * 256 + c) * 256 + d) * 256 + e = omega arith in
+    rw (← div-div-eq-div-mul h 4294967296 16, ← div-div-eq-div-mul h 256 16, u, v, high-nibble a b hb, high-bytes ((a * 256 + b) * 256 + c) d e hd he) (omega arith)
 
 -- ---- an EP that could have been accepted
 

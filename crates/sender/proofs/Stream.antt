@@ -1,7 +1,7 @@
 -- Laws of the ordinary bytes of a TP. Assumes nothing.
 use mathlib.Core.Path.{_≡_, refl, sym, ap, subst, _∙_}
 use Prim.Native.Nat.{ℕ, zero, suc, _+_, _-_, _≤_, _<_, min}
-use native.Mathlib.Nat.{suc-sub-suc, sub-zero, zero-sub, zero-min, min-zero, suc-min-suc, min-le-right, le-trans, le-add-right}
+use native.Mathlib.Nat.{suc-sub-suc, sub-zero, sub-self, zero-sub, zero-min, min-zero, suc-min-suc, min-eq-left, min-le-right, le-trans, le-add-right}
 use native.Mathlib.Omega.{arith}
 use mathlib.Core.List.{List, [], _∷_, _++_, append-assoc, append-nil}
 use lib.ListN.{length, take, drop, replicate, length-append, length-take, length-replicate}
@@ -190,20 +190,8 @@ owned b q t owed d d₁ d₂ d₃ at k n sh w p ke c₁ ne u e₃ se =
     }
 
 -- the queue has enough: nothing is lacking, and nothing is owed afterwards
-least-owed : (owed r : ℕ) → owed ≤ r → owed ≡ min owed r
-least-owed owed r h = omega arith
-
-least-queued : (r owed l : ℕ) → r - owed ≤ l → r - owed ≡ min (r - owed) l
-least-queued r owed l h = omega arith
-
 to-the-end : (D at owed : ℕ) → at ≤ D → owed ≤ D - at → at + owed + (D - at - owed) ≡ D
 to-the-end D at owed p h = omega arith
-
-no-more : (D x : ℕ) → x ≡ D → D - x ≡ 0
-no-more D x e = omega arith
-
-none-left : (r owed : ℕ) → r - owed - (r - owed) ≡ 0
-none-left r owed = omega arith
 
 pub owned-queued : (b : List ℕ) (q t : Ring) (owed : ℕ) (d d₁ d₂ : List ℕ) (at : ℕ) → Kept b q → at ≤ length d → owed ≤ length d - at → length d - at - owed ≤ q .len
     → d₁ ≡ copied d at (replicate owed 0) → record { ring = t; bytes = d₂ } ≡ popped b q d₁ (at + owed) (length d - at - owed) → length d₂ ≡ length d
@@ -212,8 +200,6 @@ owned-queued b q t owed d d₁ d₂ at w p ho hq c₁ u l₂ =
     let r : ℕ = length d - at in
     let n : ℕ = r - owed in
     let end : at + owed + n ≡ length d₂ = to-the-end (length d) at owed p ho ∙ sym l₂ in
-    let f = owned b q t owed d d₁ d₂ d₂ at owed n 0 w p (least-owed owed r ho) c₁ (least-queued r owed (q .len) hq) u (fill-nothing d₂ (at + owed + n) (length d₂ - (at + owed + n)) refl (no-more (length d₂) (at + owed + n) end)) (short-zero (r - owed - n) (none-left r owed)) in
-    subst (λ (x : ℕ). Filled b q owed d at d₂ t n x) (none-owed owed) f
-  where
-    none-owed : (owed : ℕ) → owed - owed + 0 ≡ 0
-    none-owed owed = omega arith
+    let none : length d₂ - (at + owed + n) ≡ 0 = rw end (sub-self (length d₂)) in
+    let f = owned b q t owed d d₁ d₂ d₂ at owed n 0 w p (sym (min-eq-left ho)) c₁ (sym (min-eq-left hq)) u (fill-nothing d₂ (at + owed + n) (length d₂ - (at + owed + n)) refl none) (short-zero (n - n) (sub-self n)) in
+    subst (λ (x : ℕ). Filled b q owed d at d₂ t n (x + 0)) (sub-self owed) f
