@@ -78,7 +78,7 @@ pub fn next(s: State, tp: &[u8], room: &mut [u8], out: &mut [u8]) -> Asked
     let at = put_next(out, s.at, find, tp, room, s.limit);
     Asked {
         state: with_receiver(s, receiver, at),
-        goes_on: listing::goes_on(find),
+        goes_on: receiver::lasts(find),
     }
 }
 

@@ -2,16 +2,13 @@
 -- and the window lemma says what reading that stretch from out of step hands out. Assumes nothing.
 use Prim.Native.Nat.{ℕ, _+_, _-_, _≤_}
 use mathlib.Core.Path.{_≡_, refl, sym, ap, _∙_, subst}
-use mathlib.Core.Bool.{Bool, true, false, cond}
 use mathlib.Core.List.{List, [], _++_}
 use native.Mathlib.Omega.{arith}
-use lib.Dec.{ltb}
 use lib.ListN.{length, take, drop}
-use Rattle.receiver.specs.declared.Opened.the-variants as O
 use Rattle.receiver.specs.declared.Receiver.{Receiver}
-use Rattle.receiver.specs.Call.{freshOf, OpenedAs}
+use Rattle.receiver.specs.Call.{freshOf}
 use Rattle.receiver.proofs.Whole.{standOf, settingOf}
-use Rattle.receiver.proofs.Listening.{listening}
+use Rattle.receiver.proofs.Listening.{listening, opened-fresh}
 use Rattle.receiver.specs.Frame.{lost}
 use Rattle.receiver.specs.Join.{free}
 use Rattle.receiver.specs.Low.{wire}
@@ -26,18 +23,6 @@ use Rattle.downlink.proofs.Listen.{lowsOf, inputs, got-lows, got-ordina
 use Rattle.downlink.proofs.Calling.{allFindings, lows-out, ordinaries-out, lives}
 use Rattle.downlink.proofs.Runs.{run, left-bytes, limits, start}
 use Rattle.downlink.proofs.Stretch.{lows-due, lows-from, from-k, ordinary-right}
-
--- what is opened is fresh
-fresh-is : (size stream limit : ℕ) (r : Receiver) → OpenedAs size stream limit (O.Ready r) → r ≡ freshOf size stream limit
-fresh-is size stream limit r o = go (ltb size 16) (ltb 2051 size) (ltb 15 stream) (ltb 131072 limit) (o .same)
-  where
-    go : (a b c d : Bool) → O.Ready r ≡ cond a O.Refused (cond b O.Refused (cond c O.Refused (cond d O.Refused (O.Ready (freshOf size stream limit)))))
-        → r ≡ freshOf size stream limit
-    go true b c d e = cc
-    go false true c d e = cc
-    go false false true d e = cc
-    go false false false true e = cc
-    go false false false false e = cc
 
 pub demand3 : Demand3
 demand3 size stream F w x sender-is receiver-is room-is cs rs k calls damaged hears =
@@ -56,7 +41,7 @@ demand3 size stream F w x sender-is receiver-is room-is cs rs k calls damaged he
     let f = from-k size stream F P 131072 top size-is (lim .2) k ts ls rs (fl .tps-are) (damaged .tps) in
     let g : Setting = record { size = size; stream = stream; room = 131072 } in
     let s : Stand = record { frame = lost; held = free } in
-    let e : x .receiver ≡ freshOf size stream (length (x .room)) = fresh-is size stream (length (x .room)) (x .receiver) receiver-is in
+    let e : x .receiver ≡ freshOf size stream (length (x .room)) = opened-fresh size stream (length (x .room)) (x .receiver) receiver-is in
     let heard = listening (lives (drop k rs) calls x hears .1) (receiver-is .able) (ap (λ (r : Receiver). r .stage) e) (sym (ap (λ (r : Receiver). r .limit) e)) in
     let found-is : allFindings (drop k rs) calls ≡ listingAll g s (inputs (drop k rs)) .0 =
     sym (ap (λ (l : Listing). l .0) heard)

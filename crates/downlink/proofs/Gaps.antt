@@ -6,7 +6,7 @@ use mathlib.Core.List.{List, [], _∷_, _++_, append-assoc}
 use native.Mathlib.Omega.{arith}
 use lib.ListN.{length, drop, take}
 use lib.Seq.{drop-drop, drop-at, take-at, take-nil}
-use Rattle.receiver.specs.Frame.{Code, lost, Event, lose}
+use Rattle.receiver.specs.Frame.{Code, lost, Event, gap}
 use Rattle.receiver.specs.Join.{Held, free}
 use Rattle.downlink.proofs.Within.{within}
 use Rattle.downlink.proofs.Window.{Cell, flat, heard}
@@ -31,7 +31,7 @@ module _ (C : Code) (room : ℕ) (is : List (Item C room)) where
   -- what the receiver hears: of each spell, word of a gap and the TPs that arrived
   abbrev pub hearing : List Spell → List (Event C)
   hearing [] = []
-  hearing (s ∷ ss) = lose 0 ∷ heard C lost (s .1) ++ hearing ss
+  hearing (s ∷ ss) = gap ∷ heard C lost (s .1) ++ hearing ss
 
   -- what it has to hand out: of each spell, the packets wholly within the TPs that arrived
   abbrev pub due : ℕ → List Spell → List (Hand C)

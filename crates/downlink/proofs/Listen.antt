@@ -11,8 +11,8 @@ use lib.ListN.{length, take, drop}
 use Rattle.sender.specs.Drawing as D
 use Rattle.receiver.specs.declared.kind.Kind.{Kind}
 use Rattle.receiver.specs.declared.kind.Kind.the-variants.{Fill, Reserved, Complete, First, Middle, Last}
-use Rattle.receiver.specs.Frame.{Frame, Event, lose, opened, entered, fed, closed, Out}
-use Rattle.receiver.specs.Join.{Finding, notice, low, ordinary, Held, free, held, Took, broken, goes-on, meets, handed, finish, told, fits, further, admit, take-in, listed, holding, finds}
+use Rattle.receiver.specs.Frame.{Frame, Event, lose, gap, opened, entered, fed, closed, Out}
+use Rattle.receiver.specs.Join.{Finding, notice, low, ordinary, Held, free, held, Took, broken, goes-on, meets, handed, finish, fits, further, admit, take-in, listed, holding, finds}
 use Rattle.receiver.specs.Low.{wire}
 use Rattle.receiver.specs.Tp.{Setting, Heard, Stand, Input, tpIn, inputOf, listing, listingAll}
 use Rattle.sender.specs.Run.{Tp}
@@ -107,12 +107,9 @@ module _ (room : ℕ) where
   lone-finish Middle s = refl
   lone-finish Last s = lone-handed s
 
-  lone-told : (n : ℕ) → lowsOf (listed wire (told wire n)) ≡ []
-  lone-told zero = refl
-  lone-told (suc n) = refl
-
   lone-event : (s : Held wire) (e : Event wire) → lone (take-in wire room s e) ≡ []
-  lone-event s (lose n) = lone-told n
+  lone-event s (lose n) = refl
+  lone-event s gap = refl
   lone-event s (opened h) = lone-meets (wire .kind h) s (wire .content h)
   lone-event s (entered h) = lone-admit (wire .kind h) s (wire .content h) (wire .size h)
   lone-event s (fed b) = refl

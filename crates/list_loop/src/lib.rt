@@ -56,7 +56,7 @@ fn finds(first: Run, tp: &[u8], room: &mut [u8], out: &mut [u8]) -> Run
         receiver = step.receiver;
         at = listed.at;
         let find = step.find;
-        if !listing::goes_on(find) {
+        if !receiver::lasts(find) {
             return Run {
                 receiver,
                 done: number,

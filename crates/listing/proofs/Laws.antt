@@ -13,7 +13,8 @@ use Rattle.block.proofs.Laws.{fits, length-placed, then, blockOf}
 use Rattle.block.proofs.Decimals.{decimal-most}
 use Rattle.receiver.specs.declared.Find.{Find}
 use Rattle.receiver.specs.declared.Find.the-variants.{Nothing, Refused, Notice, Low, Ordinary}
-use Rattle.listing.specs.Lines.{lowWord, ordinaryWord, noticeWord, lineWith, lineOf, goesOn}
+use Rattle.listing.specs.Lines.{lowWord, ordinaryWord, noticeWord, lineWith, lineOf}
+use Rattle.receiver.specs.Call.{lasts}
 
 -- ---- a block after a put that had room
 
@@ -117,7 +118,7 @@ some-line : (t : ℕ) (w : List ℕ) (c n : ℕ) → 1 ≤ length (lineWith t w 
 unfolding lineWith
 some-line t w c n = omega (arith, length-append (decimal t ++ w ++ decimal c ++ (32 ∷ []) ++ decimal n) (10 ∷ []))
 
-some : (t : ℕ) (f : Find) → goesOn f ≡ true → 1 ≤ length (lineOf t f)
+some : (t : ℕ) (f : Find) → lasts f ≡ true → 1 ≤ length (lineOf t f)
 some t Nothing e = subst (λ (b : Bool). 1 ≤ cond b 1 0) (sym e) (omega arith)
 some t Refused e = some-line t noticeWord 1 0
 some t (Notice k) e = some-line t noticeWord k 0
@@ -132,5 +133,5 @@ module _ (t : ℕ) (f : Find) (d y : List ℕ) (at r : ℕ) (room : at + 80 ≤ 
   pub no-less : at ≤ r
   no-less = omega (arith, moved)
 
-  pub grows : goesOn f ≡ true → at < r
+  pub grows : lasts f ≡ true → at < r
   grows on = omega (arith, moved, some t f on)

@@ -1,8 +1,6 @@
 -- The listing (document 01, 'Listing'): a header line, then a line for each find. Assumes nothing.
 use Prim.Native.Nat.{ℕ}
-use mathlib.Core.Bool.{Bool, true, false}
 use mathlib.Core.List.{List, [], _∷_, _++_}
-use lib.Dec.{ltb}
 use Rattle.block.specs.Decimal.{decimal}
 use Rattle.receiver.specs.declared.Find.{Find}
 use Rattle.receiver.specs.declared.Find.the-variants.{Nothing, Refused, Notice, Low, Ordinary}
@@ -32,11 +30,3 @@ lineOf tp Refused = lineWith tp noticeWord 1 0
 lineOf tp (Notice k) = lineWith tp noticeWord k 0
 lineOf tp (Low c start n) = lineWith tp lowWord c n
 lineOf tp (Ordinary c n) = lineWith tp ordinaryWord c n
-
--- "the same TP and room are lent until one says none, which ends the TP"; after 1 and 6 to 9 no none follows
-abbrev pub goesOn : Find → Bool
-goesOn Nothing = false
-goesOn Refused = false
-goesOn (Notice k) = ltb 9 k
-goesOn (Low c start n) = true
-goesOn (Ordinary c n) = true

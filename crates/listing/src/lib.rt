@@ -8,7 +8,7 @@ ghost use Rattle.block.specs.Block.{put};
 ghost use Rattle.block.specs.Decimal.{decimal};
 ghost use Rattle.receiver.specs.State.{Able};
 ghost use Rattle.receiver.specs.Call.{callOf, Gives};
-ghost use Rattle.listing.specs.Lines.{headerLine, lowWord, ordinaryWord, noticeWord, lineWith, lineOf, goesOn};
+ghost use Rattle.listing.specs.Lines.{headerLine, lowWord, ordinaryWord, noticeWord, lineWith, lineOf};
 use receiver::Find;
 use receiver::Receiver;
 use receiver::Step;
@@ -98,23 +98,6 @@ pub fn line(number: u64, find: Find, out: &mut [u8], at: usize) -> usize
     let mut text = [0u8; 80];
     let n = spell(number, find, &mut text, 0);
     block::put(out, at, &text[0..n])
-}
-
-// Whether the same TP has more to give.
-pub fn goes_on(find: Find) -> bool
-    ensures { λ r. ⌜ r ≡ goesOn find ⌝ }
-{
-    match find {
-        Find::Nothing => false,
-        Find::Refused => false,
-        Find::Notice(n) => 9 < n,
-        Find::Low {
-            content: _,
-            start: _,
-            len: _,
-        } => true,
-        Find::Ordinary { content: _, len: _ } => true,
-    }
 }
 
 // Asks for the next find of a TP, and puts its line.

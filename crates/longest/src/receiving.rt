@@ -71,7 +71,7 @@ fn next(run: Run, tp: &[u8], room: &mut [u8]) -> Asked
     let tally = counted(t, find, tp, room);
     Asked {
         run: Run { receiver, tally },
-        goes_on: listing::goes_on(find),
+        goes_on: receiver::lasts(find),
     }
 }
 

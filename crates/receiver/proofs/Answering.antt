@@ -9,10 +9,11 @@ use Rattle.receiver.specs.declared.Step.{Step}
 use Rattle.receiver.specs.declared.stages.Course.{Course}
 use Rattle.receiver.specs.declared.walk.Answer.{Answer}
 use Rattle.receiver.specs.declared.walk.Walk.{Walk}
-use Rattle.receiver.specs.Call.{Gave, Gives, callOf, staged, unchanged}
+use Rattle.receiver.specs.Call.{Gave, Gives, callOf, stageCall, unchanged}
 use Rattle.receiver.specs.State.{pullOf}
-use Rattle.receiver.specs.Steps.{Leads, Onward, tellOf}
-use Rattle.receiver.specs.Turns.{Ends}
+use Rattle.receiver.specs.Pieces.{tellOf}
+use Rattle.receiver.specs.InWalk.{Ends}
+use Rattle.receiver.specs.InStages.{Leads, Onward}
 use Rattle.receiver.proofs.Calling.{pullOf-none, tell-gives}
 use Rattle.receiver.specs.declared.Find.the-variants as F
 use Rattle.receiver.specs.declared.stages.Course.the-variants as C
@@ -27,7 +28,7 @@ unfolding Leads
 reads-of g r tp q w l e = subst (λ (q : Course). Leads g r tp q) e l
 
 module _ (r : Receiver) (tp m : List ℕ) (q : Step) (m′ : List ℕ) where
-  call-is : length m ≡ r .limit → length tp ≡ r .size → Gives (staged (r .stage) r tp m) q tp m′ → Gives (callOf r tp m) q tp m′
+  call-is : length m ≡ r .limit → length tp ≡ r .size → Gives (stageCall (r .stage) r tp m) q tp m′ → Gives (callOf r tp m) q tp m′
   unfolding callOf
   call-is f w h = rw (eq-eqb (length m) (r .limit) f, eq-eqb (length tp) (r .size) w) h
 
@@ -40,16 +41,16 @@ module _ (r : Receiver) (tp m : List ℕ) (q : Step) (m′ : List ℕ) where
   call-six f w h = rw (eq-eqb (length m) (r .limit) f, ne-eqb (length tp) (r .size) w) h
 
 pub call-gives : (r : Receiver) (tp m : List ℕ) (q : Course) (s : Step) → length m ≡ r .limit → length tp ≡ r .size
-    → Leads (staged (r .stage) r tp) r tp q → q ≡ C.Gives s → Gives (callOf r tp m) s tp m
-call-gives r tp m q s f w l e = call-is r tp m s m f w (gives-of (staged (r .stage) r tp) r tp m q s l e f)
+    → Leads (stageCall (r .stage) r tp) r tp q → q ≡ C.Gives s → Gives (callOf r tp m) s tp m
+call-gives r tp m q s f w l e = call-is r tp m s m f w (gives-of (stageCall (r .stage) r tp) r tp m q s l e f)
 
 -- with the room of the call's entry, m₀
 pub call-reads : (r : Receiver) (tp m m₀ : List ℕ) (q : Course) (x : Walk) (a : Answer) → 16 ≤ r .size → length m₀ ≡ r .limit → length tp ≡ r .size
-    → Leads (staged (r .stage) r tp) r tp q → q ≡ C.Reads x → Ends (length m₀) x tp m₀ a m → length m ≡ length m₀
+    → Leads (stageCall (r .stage) r tp) r tp q → q ≡ C.Reads x → Ends (length m₀) x tp m₀ a m → length m ≡ length m₀
     → Gives (callOf r tp m₀) (tellOf (a .gain) r (a .walk)) tp m
 call-reads r tp m m₀ q x a size f w l e g same =
     let s = tellOf (a .gain) r (a .walk) in
-    let o = reads-of (staged (r .stage) r tp) r tp q x l e in
+    let o = reads-of (stageCall (r .stage) r tp) r tp q x l e in
     let p = pullOf (length m₀) x tp m₀ in
     call-is r tp m₀ s m f w
     (subst (λ (z : Gave). Gives z s tp m) (o .same m₀ f)

@@ -3,11 +3,11 @@ use mathlib.Core.Path.{ap, refl, sym, _∙_, _≡_}
 use mathlib.Core.Bool.{Bool, cond, false, true}
 use mathlib.Core.Option.{none}
 use mathlib.Core.List.{List, [], append-nil, _++_, _∷_}
-use Prim.Native.Nat.{suc, zero, ℕ, _+_, _-_, _<_, _^_, _≤_}
+use Prim.Native.Nat.{suc, zero, ℕ, _+_, _-_, _<_, _^_, _≤_, min}
 use native.Mathlib.Omega.{arith}
 use lib.Dec.{ltb}
 use lib.ListN.{drop, length, length-drop, take, take-append-drop}
-use lib.Seq.{drop-drop, getD-drop, length-take-le, sets-eq, take-all, take-paste}
+use lib.Seq.{drop-drop, getD-drop, length-paste, length-take-le, sets-eq, take-all, take-paste}
 use borrow.Author.Tests.{ltb-false, ltb-true}
 use Rattle.digits.specs.Digits.{digits, number}
 use Rattle.wire.specs.Reading.{headerIn, headerOf}
@@ -17,7 +17,7 @@ use Rattle.receiver.specs.declared.walk.Gain.the-variants.{Nothing}
 use Rattle.receiver.specs.declared.walk.Kept.{Kept}
 use Rattle.receiver.specs.declared.walk.Kept.the-variants.{Empty, Of}
 use Rattle.receiver.specs.declared.walk.Phase.{Phase}
-use Rattle.receiver.specs.declared.walk.Phase.the-variants.{Body, Head, Lost}
+use Rattle.receiver.specs.declared.walk.Phase.the-variants.{Body, Head, Judged, Lost}
 use Rattle.receiver.specs.declared.walk.Turn.{Turn}
 use Rattle.receiver.specs.declared.walk.Turn.the-variants.{More, Stop}
 use Rattle.receiver.specs.declared.walk.Walk.{Walk}
@@ -27,13 +27,14 @@ use Rattle.receiver.specs.Kind.{kindOf}
 use Rattle.receiver.specs.Low.{wire}
 use Rattle.receiver.specs.Pull.{dry, meet, pull}
 use Rattle.receiver.specs.State.{Fine, Roomy, Sound, headed, heldOf, pullOf}
-use Rattle.receiver.specs.Turns.{Ends, On, Stored, Turned, finishOf, grownBy, headerTurn, pasted, shown, stops, walkAt, wholeOf}
+use Rattle.receiver.specs.Turns.{advanceBy, advanceOf, bodyTurn, finishOf, grownBy, headerTurn, stops, walkAt, wholeOf}
+use Rattle.receiver.specs.InWalk.{Ends, On, Carries, pasted, roomBy, roomOf, shown}
 use Rattle.receiver.proofs.Heading.{Bytes, digits-number, heads, heads-whole, length-digits, number-append, number-digits, number-small, on-with}
 use Rattle.receiver.proofs.Run.{grows, grows-free, grows-held, lost-run, puts, puts-free, puts-held, run}
-use Rattle.receiver.proofs.Turning.{finish-by, whole-turned}
+use Rattle.receiver.proofs.Turning.{admit-turned, finish-by, whole-turned}
 
 -- n bytes into the room
-kept-held : (cap n : ℕ) (k : Kept) (m x : List ℕ) → length m ≡ cap → Roomy cap k n → n ≤ length x
+pub kept-held : (cap n : ℕ) (k : Kept) (m x : List ℕ) → length m ≡ cap → Roomy cap k n → n ≤ length x
     → heldOf (grownBy n k) (pasted k m x n) ≡ grows wire cap (heldOf k m) (take n x)
 kept-held cap n Empty m x f r l = sym (grows-free wire cap (take n x))
 kept-held cap n (Of c a) m x f r l = ap (held c) (take-paste m a x n (omega arith) l) ∙ sym (grows-held wire cap c (take a m) (take n x))
@@ -58,6 +59,21 @@ pub fewer : (cap n z : ℕ) (k : Kept) → Roomy cap k z → n ≤ z → Roomy c
 fewer cap n z Empty r l = r
 fewer cap n z (Of c a) r l = omega arith
 
+pasted-length : (cap n : ℕ) (k : Kept) (m x : List ℕ) → length m ≡ cap → Roomy cap k n → n ≤ length x → length (pasted k m x n) ≡ cap
+pasted-length cap n Empty m x f r l = f
+pasted-length cap n (Of c a) m x f r l = length-paste m a x n (omega arith) l ∙ f
+
+pub room-length : (cap : ℕ) (w : Walk) (tp m : List ℕ) → length m ≡ cap → Sound cap (length tp) w → length (roomOf w tp m) ≡ cap
+unfolding roomOf
+room-length cap w tp m f s = by (w .phase) (s .phase)
+  where
+    by : (p : Phase) → Fine cap p (w .kept) → length (roomBy p (w .at) (w .kept) tp m) ≡ cap
+    by Lost q = f
+    by (Head n x) q = f
+    by (Judged h) q = f
+    by (Body h left) q =
+        pasted-length cap (min left (length tp - w .at)) (w .kept) m (drop (w .at) tp) f (fewer cap (min left (length tp - w .at)) left (w .kept) q (omega arith)) (omega (arith, length-drop (w .at) tp))
+
 module _ (cap : ℕ) where
   -- in an EP's data at the end of the bytes
   data-ends : (k j : ℕ) (h : Header) (s : Held wire) (m : List ℕ) → 0 < k
@@ -67,10 +83,10 @@ module _ (cap : ℕ) where
   data-ends (suc k) j h s m p = refl
 
   module _ (tp m : List ℕ) (full : length m ≡ cap) (at left : ℕ) (h : Header) (k : Kept) (s : Sound cap (length tp) (walkAt at (Body h left) k)) where
-    pub body-short : (k′ : Kept) (m′ : List ℕ) → length tp - at < left → Stored tp at (length tp - at) k m k′ m′
-        → Turned cap (walkAt at (Body h left) k) tp m (stops (at + (length tp - at)) (Body h (left - (length tp - at))) k′ Nothing) m′
-    unfolding Turned pullOf shown
-    body-short k′ m′ l w =
+    body-short : length tp - at < left
+        → Carries cap (walkAt at (Body h left) k) tp m (stops (at + (length tp - at)) (Body h (left - (length tp - at))) (grownBy (length tp - at) k) Nothing) (pasted k m (drop at tp) (length tp - at))
+    unfolding Carries pullOf shown
+    body-short l =
         let r = length tp - at in
         let p = s .at in
         let v : length (drop at tp) ≡ r = length-drop at tp in
@@ -81,16 +97,18 @@ module _ (cap : ℕ) where
         let b = kept-room cap r k m (drop at tp) full q′ (omega arith) in
         let x = run wire cap h (left - r) (at + r) left at (heldOf k m) m (drop at tp) [] (omega arith) (omega arith) in
         let y = data-ends (left - r) (at + r) h (grows wire cap (heldOf k m) (drop at tp)) (puts wire cap (heldOf k m) (drop at tp) m) (omega arith) in
-        rw (w .kept, w .room) (record {
+        record {
           same = rw (a, b, t) (sym (rw (append-nil (drop at tp)) at x ∙ y));
           sound = record { at = omega arith; phase = grown-room cap r (left - r) k (fewer cap (r + (left - r)) left k q (omega arith)) };
           gained = omega arith;
-        })
+        }
 
-    pub body-long : (k′ : Kept) (m′ : List ℕ) → left ≤ length tp - at → length m′ ≡ cap → Stored tp at left k m k′ m′
-        → Turned cap (walkAt at (Body h left) k) tp m (finishOf (kindOf h) (at + left) k′) m′
+    body-long : left ≤ length tp - at
+        → Carries cap (walkAt at (Body h left) k) tp m (finishOf (kindOf h) (at + left) (grownBy left k)) (pasted k m (drop at tp) left)
     unfolding pullOf
-    body-long k′ m′ l full′ w =
+    body-long l =
+        let m′ = pasted k m (drop at tp) left in
+        let k′ = grownBy left k in
         let p = s .at in
         let v : length (drop at tp) ≡ length tp - at = length-drop at tp in
         let q : Roomy cap k left = s .phase in
@@ -98,22 +116,21 @@ module _ (cap : ℕ) where
         let t : length ds ≡ left = length-take-le left (drop at tp) (omega arith) in
         let a = kept-held cap left k m (drop at tp) full q (omega arith) in
         let b = kept-room cap left k m (drop at tp) full q (omega arith) in
-        let a′ : heldOf k′ m′ ≡ grows wire cap (heldOf k m) ds = rw (w .kept, w .room) a in
-        let b′ : m′ ≡ puts wire cap (heldOf k m) ds m = w .room ∙ b in
+        let full′ : length m′ ≡ cap = pasted-length cap left k m (drop at tp) full q (omega arith) in
         let x = run wire cap h 0 (at + left) left at (heldOf k m) m ds (drop left (drop at tp)) (omega arith) (omega arith) in
         let z : ds ++ drop left (drop at tp) ≡ drop at tp = take-append-drop left (drop at tp) in
         let y = drop-drop left at tp in
-        let e = rw (z, ← a′, ← b′, y) at x in
+        let e = rw (z, ← a, ← b, y) at x in
         let q₀ : Roomy cap k (left + 0) = fewer cap (left + 0) left k q (omega arith) in
-        let r : Roomy cap k′ 0 = rw (w .kept) (grown-room cap left 0 k q₀) in
+        let r : Roomy cap k′ 0 = grown-room cap left 0 k q₀ in
         finish-by cap tp m′ full′ (kindOf h) (walkAt at (Body h left) k) m (at + left) k′ (omega arith) r (omega arith) (sym e)
 
   module _ (tp m : List ℕ) (full : length m ≡ cap) (bytes : Bytes tp) where
     header-by : (b : Bool) (at n w : ℕ) (k : Kept) → at ≤ length tp → Fine cap (Head n w) k → ltb (length tp - at) (6 - n) ≡ b
-        → Turned cap (walkAt at (Head n w) k) tp m
+        → Carries cap (walkAt at (Head n w) k) tp m
         (cond b (stops (at + (length tp - at)) (Head (n + (length tp - at)) (number w (take (length tp - at) (drop at tp)))) k Nothing)
         (wholeOf (at + (6 - n)) (headerIn (number w (take (6 - n) (drop at tp)))) k cap)) m
-    unfolding Turned pullOf shown
+    unfolding Carries pullOf shown
     header-by true at n w k l f q =
         let r = length tp - at in
         let u = ltb-true (length tp - at) (6 - n) q in
@@ -145,16 +162,16 @@ module _ (cap : ℕ) where
         some-heads hs [] bs at j l p e = absurd (omega arith)
         some-heads hs (d ∷ ds) bs at j l p e = heads-whole cap (heldOf k m) m hs d ds bs at j (omega arith) (omega arith)
 
-    pub header-turned : (w : Walk) (n x : ℕ) → Sound cap (length tp) w → w .phase ≡ Head n x
-        → Turned cap w tp m (headerTurn tp (w .at) n x (w .kept) cap) m
+    header-turned : (w : Walk) (n x : ℕ) → Sound cap (length tp) w → w .phase ≡ Head n x
+        → Carries cap w tp m (headerTurn tp (w .at) n x (w .kept) cap) m
     unfolding headerTurn
     header-turned w n x s q =
         let v : walkAt (w .at) (Head n x) (w .kept) ≡ w = ap (λ (p : Phase). walkAt (w .at) p (w .kept)) (sym q) in
         let s′ = rw (← v) at s in
         rw (← v) (header-by (ltb (length tp - w .at) (6 - n)) (w .at) n x (w .kept) (s′ .at) (s′ .phase) refl)
 
-    pub lost-turned : (w : Walk) → Sound cap (length tp) w → w .phase ≡ Lost → Turned cap w tp m (stops (length tp) (w .phase) (w .kept) Nothing) m
-    unfolding Turned pullOf shown
+    lost-turned : (w : Walk) → Sound cap (length tp) w → w .phase ≡ Lost → Carries cap w tp m (stops (length tp) Lost (w .kept) Nothing) m
+    unfolding Carries pullOf shown
     lost-turned w s q =
         let p = s .at in
         let v : walkAt (w .at) Lost (w .kept) ≡ w = ap (λ (p : Phase). walkAt (w .at) p (w .kept)) (sym q) in
@@ -165,15 +182,48 @@ module _ (cap : ℕ) where
           gained = omega arith;
         })
 
--- the loop over turns: from w₀ with the room's bytes m₀ it has come to w and m
-module _ (tp m₀ m m′ : List ℕ) (w₀ w : Walk) (r : Turn) (same-length : length m ≡ length m₀) (t : Turned (length m) w tp m r m′) where
-  turned : Turned (length m₀) w tp m r m′
-  turned = rw same-length at t
+    body-turned : (w : Walk) (h : Header) (left : ℕ) → Sound cap (length tp) w → w .phase ≡ Body h left
+        → Carries cap w tp m (bodyTurn tp (w .at) h left (w .kept)) (pasted (w .kept) m (drop (w .at) tp) (min left (length tp - w .at)))
+    unfolding bodyTurn
+    body-turned w h left s q =
+        let v : walkAt (w .at) (Body h left) (w .kept) ≡ w = ap (λ (p : Phase). walkAt (w .at) p (w .kept)) (sym q) in
+        let s′ = rw (← v) at s in
+        rw (← v) (by (ltb (length tp - w .at) left) refl s′)
+      where
+        by : (b : Bool) → ltb (length tp - w .at) left ≡ b → Sound cap (length tp) (walkAt (w .at) (Body h left) (w .kept))
+            → Carries cap (walkAt (w .at) (Body h left) (w .kept)) tp m
+            (cond b (stops (w .at + (length tp - w .at)) (Body h (left - (length tp - w .at))) (grownBy (length tp - w .at) (w .kept)) Nothing)
+            (finishOf (kindOf h) (w .at + left) (grownBy left (w .kept)))) (pasted (w .kept) m (drop (w .at) tp) (min left (length tp - w .at)))
+        by true e s =
+            let l = ltb-true (length tp - w .at) left e in
+            let n : min left (length tp - w .at) ≡ length tp - w .at = omega arith in
+            rw n (body-short tp m full (w .at) left h (w .kept) s l)
+        by false e s =
+            let l = ltb-false (length tp - w .at) left e in
+            let n : min left (length tp - w .at) ≡ left = omega arith in
+            rw n (body-long tp m full (w .at) left h (w .kept) s l)
+
+    -- ONE TURN, whatever room is lent: the call that is still asked for behind it is the one that was asked for
+    pub advance-carries : (w : Walk) → Sound cap (length tp) w → Carries cap w tp m (advanceOf cap w tp) (roomOf w tp m)
+    unfolding advanceOf roomOf
+    advance-carries w s = by (w .phase) refl
+      where
+        by : (p : Phase) → w .phase ≡ p → Carries cap w tp m (advanceBy p (w .at) (w .kept) cap tp) (roomBy p (w .at) (w .kept) tp m)
+        by Lost e = lost-turned w s e
+        by (Head n x) e = header-turned w n x s e
+        by (Judged h) e = admit-turned cap tp m full w h s e
+        by (Body h left) e = body-turned w h left s e
+
+-- the loop over turns: from w₀ with the room's bytes m₀ it has come to w and m, and the turn's data are put in
+module _ (tp m₀ m m′ : List ℕ) (w₀ w : Walk) (r : Turn) (full : length m ≡ length m₀) (full′ : length m′ ≡ length m₀) (bytes : Bytes tp)
+    (s : Sound (length m₀) (length tp) w) (put : m′ ≡ roomOf w tp m) (t : r ≡ advanceOf (length m′) w tp) where
+  turned : Carries (length m₀) w tp m r m′
+  turned = rw (t, full′, put) (advance-carries (length m₀) tp m full bytes w s)
 
   pub turn-on : (x : Walk) → r ≡ More x → On (length m₀) w tp m x m′
-  unfolding Turned
+  unfolding Carries
   turn-on x e = rw e at turned
 
   pub turn-ends : (a : Answer) → r ≡ Stop a → pullOf (length m₀) w tp m ≡ pullOf (length m₀) w₀ tp m₀ → Ends (length m₀) w₀ tp m₀ a m′
-  unfolding Turned
+  unfolding Carries
   turn-ends a e p = let q : Ends (length m₀) w tp m a m′ = rw e at turned in record { same = q .same ∙ p; sound = q .sound; gained = q .gained }

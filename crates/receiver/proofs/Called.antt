@@ -11,7 +11,7 @@ use borrow.Author.Tests.{eq-eqb, eqb-false, eqb-true, ne-eqb}
 use Rattle.receiver.specs.declared.Receiver.{Receiver}
 use Rattle.receiver.specs.declared.Stage.{Stage}
 use Rattle.receiver.specs.declared.Step.{Step}
-use Rattle.receiver.specs.Call.{Gave, Gives, callOf, dataOf, freshly, lowly, plainly, staged, stepped}
+use Rattle.receiver.specs.Call.{Gave, Gives, callOf, dataOf, firstCall, lowCall, ordinaryCall, stageCall, stepped}
 use Rattle.receiver.specs.Join.{Finding, notice}
 use Rattle.receiver.specs.Low.{wire}
 use Rattle.receiver.specs.Lows.{lowsOf}
@@ -19,8 +19,8 @@ use Rattle.receiver.specs.State.{Able, Staged, frameOf, heldOf, pullOf, 
 use Rattle.receiver.specs.Tp.{Listing, heard, listing, listingOf, tpIn}
 use Rattle.receiver.proofs.Ending.{Ended, Tells, call-tells, six-tells}
 use Rattle.receiver.proofs.Lasting.{call-lasts}
-use Rattle.receiver.proofs.Rest.{afterwards, before, due-rest, heardly, lowRest, plainly-by, saying, stageRest}
-use Rattle.receiver.proofs.Whole.{fresh-rest, lowly-rest, settingOf, standOf}
+use Rattle.receiver.proofs.Rest.{afterwards, before, due-rest, heardFrom, lowRest, ordinaryCall-by, saying, stageRest}
+use Rattle.receiver.proofs.Whole.{fresh-rest, lowCall-rest, settingOf, standOf}
 use Rattle.receiver.specs.declared.Stage.the-variants as S
 
 -- the finds that a receiver still has to give of this TP
@@ -31,21 +31,21 @@ comingOf (S.Due o) r tp m = stageRest (r .limit) (S.Due o) (r .walk .at) (frameO
 comingOf S.Plain r tp m = stageRest (r .limit) S.Plain (r .walk .at) (frameOf (r .walk .phase)) (heldOf (r .walk .kept) m) (todoOf (r .walk .phase)) tp
 
 module _ (r : Receiver) (tp m : List ℕ) (able : Able r) (full : length m ≡ r .limit) (whole : length tp ≡ r .size) where
-  staged-rest : (g : Stage) → r .stage ≡ g → Staged g (r .walk) → comingOf g r tp m ≡ afterwards (r .limit) (staged g r tp m) tp
+  staged-rest : (g : Stage) → r .stage ≡ g → Staged g (r .walk) → comingOf g r tp m ≡ afterwards (r .limit) (stageCall g r tp m) tp
   unfolding pullOf
   staged-rest S.Fresh e z =
       let b = able .size in
-      subst (λ (n : ℕ). heardly n (heldOf (r .walk .kept) m) (heard (settingOf r) (frameOf (r .walk .phase)) tp) ≡ afterwards n (freshly r tp m) tp) full
+      subst (λ (n : ℕ). heardFrom n (heldOf (r .walk .kept) m) (heard (settingOf r) (frameOf (r .walk .phase)) tp) ≡ afterwards n (firstCall r tp m) tp) full
       (fresh-rest r tp m e (omega arith) whole)
   staged-rest (S.Low o) e z =
       let b = able .walk .at in
-      subst (λ (n : ℕ). lowRest n (suc (length tp)) (frameOf (r .walk .phase)) (heldOf (r .walk .kept) m) o (r .walk .at) tp ≡ afterwards n (lowly (lowsOf tp (r .walk .at)) r o tp m) tp) full
-      (lowly-rest r o tp m (r .walk .at) (z .1) (omega arith))
+      subst (λ (n : ℕ). lowRest n (suc (length tp)) (frameOf (r .walk .phase)) (heldOf (r .walk .kept) m) o (r .walk .at) tp ≡ afterwards n (lowCall (lowsOf tp (r .walk .at)) r o tp m) tp) full
+      (lowCall-rest r o tp m (r .walk .at) (z .1) (omega arith))
   staged-rest (S.Due o) e z = due-rest (r .limit) r o (r .walk .at) tp m (sym full)
   staged-rest S.Plain e z =
       let p = pullOf (r .limit) (r .walk) tp m in
-      plainly-by (r .limit) (p .find) r tp (frameOf (r .walk .phase)) (r .walk .at) (heldOf (r .walk .kept) m) m (todoOf (r .walk .phase)) p refl refl
-      ∙ ap (λ (n : ℕ). afterwards (r .limit) (plainly r (pullOf n (r .walk) tp m)) tp) (sym full)
+      ordinaryCall-by (r .limit) (p .find) r tp (frameOf (r .walk .phase)) (r .walk .at) (heldOf (r .walk .kept) m) m (todoOf (r .walk .phase)) p refl refl
+      ∙ ap (λ (n : ℕ). afterwards (r .limit) (ordinaryCall r (pullOf n (r .walk) tp m)) tp) (sym full)
 
   -- a call takes the first find to come, and leaves the others
   pub call-rest : comingOf (r .stage) r tp m ≡ afterwards (r .limit) (callOf r tp m) tp

@@ -19,16 +19,18 @@ use Rattle.receiver.specs.declared.walk.Kept.the-variants.{Empty, Of}
 use Rattle.receiver.specs.declared.walk.Phase.{Phase}
 use Rattle.receiver.specs.declared.walk.Phase.the-variants.{Body, Head, Judged, Lost}
 use Rattle.receiver.specs.declared.walk.Walk.{Walk}
-use Rattle.receiver.specs.Call.{Gives, Said, gone, holds, leave, lowly, plainly, saidOf, says, startly, stepped, unchanged, walkTo}
+use Rattle.receiver.specs.Call.{Gives, Said, gone, holds, leave, lowCall, ordinaryCall, saidOf, says, startCall, stepped, unchanged, walkTo}
 use Rattle.receiver.specs.Forecast.{dropped}
 use Rattle.receiver.specs.Frame.{Frame, lost, step}
 use Rattle.receiver.specs.Join.{Held, free}
 use Rattle.receiver.specs.Low.{wire}
-use Rattle.receiver.specs.Outset.{loseOf, setOut, uponOf}
+use Rattle.receiver.specs.Outset.{uponOf}
+use Rattle.receiver.specs.Pieces.{stepOf, tellOf}
+use Rattle.receiver.specs.InWalk.{Gained, shown}
+use Rattle.receiver.specs.InOutset.{loseOf, setOut}
+use Rattle.receiver.specs.InStages.{setCall}
 use Rattle.receiver.specs.Pull.{Met, Pulled, dry, found, meet, reads, upto}
 use Rattle.receiver.specs.State.{Able, Fine, Roomy, Settled, Sound, Staged, frameOf, heldOf, keeps, pullOf, todoOf}
-use Rattle.receiver.specs.Steps.{setly, stepOf, tellOf}
-use Rattle.receiver.specs.Turns.{Gained, shown}
 use Rattle.receiver.proofs.SettingOut.{roomy, upon-fine}
 use Rattle.receiver.specs.declared.Find.the-variants as F
 use Rattle.receiver.specs.declared.low.Lows.the-variants as L
@@ -84,28 +86,28 @@ module _ (r : Receiver) (tp m : List ℕ) (size : 16 ≤ r .size) (whole : lengt
   packet-told c n l = ap (λ (k : ℕ). record { find = F.Ordinary c k; number = none; bytes = take n m }) (sym (length-take-le n m l))
 
   notice-by : (n : ℕ) (w : Walk) (p : Pulled wire) → shown (record { walk = w; gain = G.Notice n }) m ≡ p → Sound (length m) (length tp) w
-      → Gives (plainly r p) (stepOf r Plain (w .at) (w .phase) (w .kept) (F.Notice n)) tp m
+      → Gives (ordinaryCall r p) (stepOf r Plain (w .at) (w .phase) (w .kept) (F.Notice n)) tp m
   unfolding stepped shown
   notice-by n w p e s = record {
-    same = shows Plain (w .at) w (says (F.Notice n) (some n)) s ∙ ap (plainly r) e;
+    same = shows Plain (w .at) w (says (F.Notice n) (some n)) s ∙ ap (ordinaryCall r) e;
     able = record { size = size; walk = rw (full, whole) at s; stage = omega arith };
   }
 
   -- 12 and 13 leave reading at the offset
   pub lose-gives : (at n i : ℕ) → at + n ≤ length tp → shown (loseOf (at + n) (length tp) i) m ≡ setOut (length m) (walkTo r at) n tp m
-      → Gives (setly r at n tp m) (stepOf r Plain (at + n) (uponOf (at + n) (length tp)) Empty (F.Notice i)) tp m
+      → Gives (setCall r at n tp m) (stepOf r Plain (at + n) (uponOf (at + n) (length tp)) Empty (F.Notice i)) tp m
   unfolding setOut
   lose-gives at n i b e =
       notice-by i (loseOf (at + n) (length tp) i .walk) (setOut (length m) (walkTo r at) n tp m) e
       (record { at = b; phase = upon-fine (length m) (at + n) (length tp) Empty (omega arith) })
 
   tell-by : (g : Gain) (w : Walk) (p : Pulled wire) → shown (record { walk = w; gain = g }) m ≡ p → Sound (length m) (length tp) w → Gained (length m) g
-      → (p .find ≡ none → p .todo ≡ []) → Gives (plainly r p) (tellOf g r w) tp m
+      → (p .find ≡ none → p .todo ≡ []) → Gives (ordinaryCall r p) (tellOf g r w) tp m
   unfolding stepped shown
   tell-by G.Nothing w p e s d q =
       let s′ : Sound (r .limit) (r .size) w = rw (full, whole) at s in
       record {
-        same = shows Fresh 0 w (says F.Nothing none) s ∙ ap (plainly r) e;
+        same = shows Fresh 0 w (says F.Nothing none) s ∙ ap (ordinaryCall r) e;
         able = record {
           size = size;
           walk = record { at = omega arith; phase = s′ .phase };
@@ -116,17 +118,17 @@ module _ (r : Receiver) (tp m : List ℕ) (size : 16 ≤ r .size) (whole : lengt
   tell-by (G.Packet c n) w p e s d q = record {
     same = shows Plain (w .at) w (saidOf (F.Ordinary c n) tp m) s
         ∙ ap (λ (a : Said). leave r Plain (w .at) (frameOf (w .phase)) (todoOf (w .phase)) (heldOf (w .kept) m) (holds (heldOf (w .kept) m)) a m) (packet-told c n (omega arith))
-        ∙ ap (plainly r) e;
+        ∙ ap (ordinaryCall r) e;
     able = record { size = size; walk = rw (full, whole) at s; stage = omega arith };
   }
 
   pub drop-gives : (n at : ℕ) → at ≤ length tp
-      → Gives (startly r at (dropped wire (suc n) (drop at tp)) tp m) (stepOf r Plain (length tp) Lost Empty (F.Notice (suc n))) tp m
+      → Gives (startCall r at (dropped wire n (drop at tp)) tp m) (stepOf r Plain (length tp) Lost Empty (F.Notice n)) tp m
   unfolding stepped
   drop-gives n at l =
       let e : length tp ≡ at + length (drop at tp) = omega (arith, length-drop at tp) in
       record {
-        same = ap (λ (i : ℕ). leave r Plain i lost [] free 0 (says (F.Notice (suc n)) (some (suc n))) m) e;
+        same = ap (λ (i : ℕ). leave r Plain i lost [] free 0 (says (F.Notice n) (some n)) m) e;
         able = record { size = size; walk = record { at = omega arith; phase = omega arith }; stage = omega arith };
       }
 
@@ -139,7 +141,7 @@ module _ (r : Receiver) (tp m : List ℕ) (size : 16 ≤ r .size) (whole : lengt
   low-stage false o w l b s = (l, b, s)
 
   pub low-gives : (o : ℕ) (f : Find) (more : Bool) (i at : ℕ) → o < 2048 → 4 ≤ i → i ≤ length tp → Sound (r .limit) (r .size) (walkTo r at) → Settled (r .walk .phase)
-      → Gives (lowly (L.Gives f more i) r o tp m) (stepOf r (cond more (Low o) (Due o)) i (r .walk .phase) (r .walk .kept) f) tp m
+      → Gives (lowCall (L.Gives f more i) r o tp m) (stepOf r (cond more (Low o) (Due o)) i (r .walk .phase) (r .walk .kept) f) tp m
   unfolding stepped
   low-gives o f more i at l b d w z = record {
     same = refl;
@@ -149,7 +151,7 @@ module _ (r : Receiver) (tp m : List ℕ) (size : 16 ≤ r .size) (whole : lengt
 -- with the room of the call's entry, m₀
 pub tell-gives : (r : Receiver) (tp m m₀ : List ℕ) → 16 ≤ r .size → length tp ≡ r .size → length m₀ ≡ r .limit → (a : Answer) (p : Pulled wire)
     → shown a m ≡ p → Sound (length m₀) (length tp) (a .walk) → Gained (length m₀) (a .gain) → (p .find ≡ none → p .todo ≡ [])
-    → length m ≡ length m₀ → Gives (plainly r p) (tellOf (a .gain) r (a .walk)) tp m
+    → length m ≡ length m₀ → Gives (ordinaryCall r p) (tellOf (a .gain) r (a .walk)) tp m
 tell-gives r tp m m₀ size whole full a p e s d q same =
     tell-by r tp m size whole (same ∙ full) (a .gain) (a .walk) p e
     (subst (λ (n : ℕ). Sound n (length tp) (a .walk)) (sym same) s) (subst (λ (n : ℕ). Gained n (a .gain)) (sym same) d) q

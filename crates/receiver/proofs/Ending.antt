@@ -20,7 +20,7 @@ use Rattle.receiver.specs.declared.kind.Kind.the-variants.{Complete, Fil
 use Rattle.receiver.specs.declared.low.Llep.{Llep}
 use Rattle.receiver.specs.declared.low.Llep.the-variants.{Broken, Whole}
 use Rattle.receiver.specs.declared.low.Lows.{Lows}
-use Rattle.receiver.specs.Call.{Gave, begun, begunly, callOf, dataOf, dueOf, freshly, gone, lowly, plain, staged, startly, unchanged, walkTo}
+use Rattle.receiver.specs.Call.{Gave, wordCall, payloadCall, callOf, dataOf, dueCall, firstCall, gone, lowCall, ordinaryBy, stageCall, startCall, unchanged, walkTo}
 use Rattle.receiver.specs.Forecast.{Start, dropped, outset, start}
 use Rattle.receiver.specs.Join.{Finding, low, notice, ordinary}
 use Rattle.receiver.specs.Kind.{kindOf}
@@ -106,19 +106,19 @@ on-stage true o e = let z : _≡_ {A = ℕ} 0 1 = cc in omega arith
 on-stage false o e = let z : _≡_ {A = ℕ} 0 1 = cc in omega arith
 
 module _ (r : Receiver) (tp m : List ℕ) where
-  plain-tells : (x : Option (Finding wire)) (p : Pulled wire) → LateFind x → Tells tp (plain x r p)
+  plain-tells : (x : Option (Finding wire)) (p : Pulled wire) → LateFind x → Tells tp (ordinaryBy x r p)
   plain-tells none p l = record { over = λ e. refl; ended = λ e. omega arith; within = omega arith }
   plain-tells (some (notice n)) p l = record { over = λ e. absurd (omega arith); ended = λ e. absurd (not-fresh e); within = omega arith }
   plain-tells (some (low c d)) p l = absurd (omega arith)
   plain-tells (some (ordinary c d)) p l = record { over = λ e. absurd (omega arith); ended = λ e. absurd (not-fresh e); within = refl }
 
-  start-tells : (at : ℕ) (t : Start wire) → AllLate (t .told) → Tells tp (startly r at t tp m)
+  start-tells : (at : ℕ) (t : Start wire) → AllLate (t .told) → Tells tp (startCall r at t tp m)
   start-tells at t l =
       let p = from (length m) t (walkTo r at) tp m in
       plain-tells (p .find) p (pull-late (length m) (t .frame) (at + t .past) (heldOf (r .walk .kept) m) m (t .told) (drop (at + t .past) tp) l)
 
-  due-tells : (o at : ℕ) → Tells tp (dueOf r o at tp m)
-  unfolding dueOf
+  due-tells : (o at : ℕ) → Tells tp (dueCall r o at tp m)
+  unfolding dueCall
   due-tells o at =
       start-tells at (outset wire (frameOf (r .walk .phase)) o (at - 4) (drop at tp)) (outset-late (frameOf (r .walk .phase)) o (at - 4) (drop at tp))
 
@@ -129,38 +129,38 @@ module _ (r : Receiver) (tp m : List ℕ) where
   found-in (F.Low c start n) a = a
   found-in (F.Ordinary c n) a = absurd (omega arith)
 
-  low-tells : (l : Lows) (o : ℕ) → OnLows (length tp) l → Tells tp (lowly l r o tp m)
+  low-tells : (l : Lows) (o : ℕ) → OnLows (length tp) l → Tells tp (lowCall l r o tp m)
   low-tells (L.Broken at) o a = start-tells at (dropped wire 11 (drop at tp)) (omega arith, omega arith)
   low-tells (L.End at) o a = due-tells o at
   low-tells (L.Gives f more at) o a = record { over = λ e. absurd (on-find (length tp) f a e); ended = λ e. absurd (on-stage more o e); within = found-in f a }
 
-  begunly-tells : (b : Bool) (o : ℕ) → Tells tp (begunly b r o tp m)
-  begunly-tells true o = low-tells (lowsOf tp 4) o (walk-goes tp 4)
-  begunly-tells false o = due-tells o 4
+  payloadCall-tells : (b : Bool) (o : ℕ) → Tells tp (payloadCall b r o tp m)
+  payloadCall-tells true o = low-tells (lowsOf tp 4) o (walk-goes tp 4)
+  payloadCall-tells false o = due-tells o 4
 
   gone-tells : (n : ℕ) → 6 ≤ n → n ≤ 9 → Tells tp (gone r n m)
   gone-tells n a b = record { over = λ e. refl; ended = λ e. (a, b); within = omega arith }
 
-  begun-tells : (o : Option ℕ) → Tells tp (begun o r tp m)
+  begun-tells : (o : Option ℕ) → Tells tp (wordCall o r tp m)
   begun-tells none = gone-tells 9 (omega arith) (omega arith)
-  begun-tells (some w) = begunly-tells (leb 2048 w) (w % 2048)
+  begun-tells (some w) = payloadCall-tells (leb 2048 w) (w % 2048)
 
   still-tells : (n : ℕ) → 6 ≤ n → n ≤ 9 → r .stage ≡ S.Fresh → Tells tp (unchanged r (F.Notice n) n m)
   still-tells n a b e = record { over = λ z. e; ended = λ z. (a, b); within = omega arith }
 
-  fresh-tells : r .stage ≡ S.Fresh → Tells tp (freshly r tp m)
-  unfolding freshly
+  fresh-tells : r .stage ≡ S.Fresh → Tells tp (firstCall r tp m)
+  unfolding firstCall
   fresh-tells e = by (eqb (streamOf (getD tp 0 0)) (r .stream)) (eqb (versionOf (getD tp 0 0)) 0)
     where
       W : Option ℕ
       W = tpNumberIn (number 0 (take 3 (drop 1 tp)))
 
-      by : (a b : Bool) → Tells tp (cond a (cond b (begun W r tp m) (gone r 7 m)) (unchanged r (F.Notice 8) 8 m))
+      by : (a b : Bool) → Tells tp (cond a (cond b (wordCall W r tp m) (gone r 7 m)) (unchanged r (F.Notice 8) 8 m))
       by true true = begun-tells W
       by true false = gone-tells 7 (omega arith) (omega arith)
       by false b = still-tells 8 (omega arith) (omega arith) e
 
-  staged-tells : (g : Stage) → r .stage ≡ g → Tells tp (staged g r tp m)
+  staged-tells : (g : Stage) → r .stage ≡ g → Tells tp (stageCall g r tp m)
   unfolding pullOf
   staged-tells S.Fresh e = fresh-tells e
   staged-tells (S.Low o) e = low-tells (lowsOf tp (r .walk .at)) o (walk-goes tp (r .walk .at))

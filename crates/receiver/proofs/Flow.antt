@@ -10,7 +10,7 @@ use Rattle.digits.specs.Digits.{number}
 use Rattle.wire.specs.Reading.{headerOf, streamOf, tpNumberIn, versionOf}
 use Rattle.wire.specs.declared.Header.{Header}
 use Rattle.receiver.specs.Forecast.{Start, agree, dropped, foretold, judge, outset, start, upon}
-use Rattle.receiver.specs.Frame.{Event, Frame, after, body, closed, ending, entered, events, fed, head, idle, lose, lost, opened, step, whole, within}
+use Rattle.receiver.specs.Frame.{Event, Frame, after, body, closed, ending, entered, events, fed, gap, head, idle, lose, lost, opened, step, whole, within}
 use Rattle.receiver.specs.Join.{Finding}
 use Rattle.receiver.specs.Low.{wire}
 use Rattle.receiver.specs.Tp.{Heard, Input, Setting, behind, dropping, eventsAll, gapTold, heard, inputOf, lowPartIf, refusing, tpIn, worded}
@@ -22,6 +22,7 @@ pub data Place : Type 0 where
 
 pub data Follows : Place → Event wire → Place → Type 0 where
   loses : {p : Place} {n : ℕ} → Follows p (lose n) apart
+  breaks : {p : Place} → Follows p gap apart
   opens : {h : Header} → Follows apart (opened h) (met-at h)
   enters : {h : Header} → Follows (met-at h) (entered h) (inside-of h (h .size))
   feeds-on : {h : Header} {k b : ℕ} → Follows (inside-of h (suc k)) (fed b) (inside-of h k)
@@ -106,7 +107,7 @@ worded-flow (some w) f bs = behind-flow (lowPartIf (leb 2048 w) bs .finds) (lowP
 
 input-flow : (s : Setting) (f : Frame wire) (x : Input) → Brings f (inputOf s f x)
 unfolding heard
-input-flow s f gapTold = next-to loses still
+input-flow s f gapTold = next-to breaks still
 input-flow s f (tpIn tp) = by (eqb (length tp) (s .size)) (eqb (streamOf (getD tp 0 0)) (s .stream)) (eqb (versionOf (getD tp 0 0)) 0)
   where
     W : Heard

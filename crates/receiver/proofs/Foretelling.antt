@@ -17,7 +17,8 @@ use Rattle.receiver.specs.declared.walk.Phase.the-variants.{Body, Head, 
 use Rattle.receiver.specs.Forecast.{foretold, later, phase}
 use Rattle.receiver.specs.Frame.{Out, idle, lost, whole, within}
 use Rattle.receiver.specs.Low.{wire}
-use Rattle.receiver.specs.Outset.{aheadOf, behindOf, foreOf, foretells, seen}
+use Rattle.receiver.specs.Outset.{foreOf, foretells, seen}
+use Rattle.receiver.specs.InOutset.{aheadOf, behindOf}
 use Rattle.receiver.specs.State.{headed}
 use Rattle.receiver.proofs.Bodies.{decoded}
 use Rattle.receiver.proofs.Heading.{headed-last, headed-step, length-digits}

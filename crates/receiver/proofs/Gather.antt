@@ -17,7 +17,8 @@ use Rattle.receiver.specs.declared.walk.Gain.the-variants.{Notice}
 use Rattle.receiver.specs.declared.walk.Kept.{Kept}
 use Rattle.receiver.specs.declared.walk.Kept.the-variants.{Empty, Of}
 use Rattle.receiver.specs.declared.walk.Phase.the-variants.{Lost}
-use Rattle.receiver.specs.Turns.{Stored, openedOf, stops, wholeOf}
+use Rattle.receiver.specs.Turns.{openedOf, stops, wholeOf}
+use Rattle.receiver.specs.InWalk.{pasted}
 use Rattle.wire.specs.declared.Read.the-variants as R
 
 pub beyond-read : (at : ℕ) (k : Kept) (cap : ℕ) (o : Option Header) → readOf o ≡ R.Beyond → stops at Lost Empty (Notice 12) ≡ wholeOf at o k cap
@@ -86,15 +87,15 @@ three-of (a ∷ b ∷ []) l = absurd (omega arith)
 three-of (a ∷ b ∷ c ∷ []) l = absurd (omega arith)
 three-of (a ∷ b ∷ c ∷ d ∷ tp) l = refl
 
-pub stored-is : (tp : List ℕ) (at n c l : ℕ) (k : Kept) (m m′ : List ℕ) → k ≡ Of c l → at + n ≤ length tp → l + n ≤ length m
-    → m′ ≡ copied m l (take (at + n - at) (drop at tp)) → Stored tp at n k m (Of c (l + n)) m′
-stored-is tp at n c l k m m′ e h room g =
+pub put-is : (tp : List ℕ) (at n c l : ℕ) (k : Kept) (m m′ : List ℕ) → k ≡ Of c l → at + n ≤ length tp → l + n ≤ length m
+    → m′ ≡ copied m l (take (at + n - at) (drop at tp)) → m′ ≡ pasted k m (drop at tp) n
+put-is tp at n c l k m m′ e h room g =
     let q : at + n - at ≡ n = omega arith in
     let f = length-take-le n (drop at tp) (omega (arith, length-drop at tp)) in
     let all : min n (length m - l) ≡ n = omega arith in
     let z : m′ ≡ paste m l (take n (drop at tp)) n = rw (q, f, all) at g in
     let t = take-take n n (drop at tp) (omega arith) in
-    rw e (record { kept = refl; room = z ∙ ap (λ (t : List ℕ). take l m ++ t ++ drop (l + n) m) t })
+    rw e (z ∙ ap (λ (t : List ℕ). take l m ++ t ++ drop (l + n) m) t)
 
 -- as much of a stretch as there is
 

@@ -14,7 +14,7 @@ use Rattle.receiver.specs.declared.Receiver.{Receiver}
 use Rattle.receiver.specs.declared.Stage.{Stage}
 use Rattle.receiver.specs.declared.Step.{Step}
 use Rattle.receiver.specs.declared.low.Lows.{Lows}
-use Rattle.receiver.specs.Call.{Gave, Gives, begun, begunly, callOf, dueOf, freshly, gone, lowly, plain, staged, startly, stepped, unchanged, walkTo}
+use Rattle.receiver.specs.Call.{Gave, Gives, wordCall, payloadCall, callOf, dueCall, firstCall, gone, lowCall, ordinaryBy, stageCall, startCall, stepped, unchanged, walkTo}
 use Rattle.receiver.specs.Forecast.{Start, dropped, outset, start}
 use Rattle.receiver.specs.Join.{Finding, low, notice, ordinary}
 use Rattle.receiver.specs.Low.{wire}
@@ -31,51 +31,51 @@ module _ (r : Receiver) (tp m : List ℕ) where
   abbrev Ok : Gave → Type 0
   Ok g = LowOk tp (g .said .find)
 
-  plain-ok : (x : Option (Finding wire)) (p : Pulled wire) → LateFind x → Ok (plain x r p)
+  plain-ok : (x : Option (Finding wire)) (p : Pulled wire) → LateFind x → Ok (ordinaryBy x r p)
   plain-ok none p l = omega arith
   plain-ok (some (notice n)) p l = omega arith
   plain-ok (some (low c d)) p l = absurd (omega arith)
   plain-ok (some (ordinary c d)) p l = omega arith
 
-  start-ok : (at : ℕ) (t : Start wire) → AllLate (t .told) → Ok (startly r at t tp m)
+  start-ok : (at : ℕ) (t : Start wire) → AllLate (t .told) → Ok (startCall r at t tp m)
   start-ok at t l =
       let p = from (length m) t (walkTo r at) tp m in
       plain-ok (p .find) p (pull-late (length m) (t .frame) (at + t .past) (heldOf (r .walk .kept) m) m (t .told) (drop (at + t .past) tp) l)
 
-  due-ok : (o at : ℕ) → Ok (dueOf r o at tp m)
-  unfolding dueOf
+  due-ok : (o at : ℕ) → Ok (dueCall r o at tp m)
+  unfolding dueCall
   due-ok o at = start-ok at (outset wire (frameOf (r .walk .phase)) o (at - 4) (drop at tp)) (outset-late (frameOf (r .walk .phase)) o (at - 4) (drop at tp))
 
-  lowly-ok : (l : Lows) (o : ℕ) → LowsOk tp l → Ok (lowly l r o tp m)
-  lowly-ok (L.Broken at) o a = start-ok at (dropped wire 11 (drop at tp)) (omega arith, omega arith)
-  lowly-ok (L.End at) o a = due-ok o at
-  lowly-ok (L.Gives f more at) o a = a
+  lowCall-ok : (l : Lows) (o : ℕ) → LowsOk tp l → Ok (lowCall l r o tp m)
+  lowCall-ok (L.Broken at) o a = start-ok at (dropped wire 11 (drop at tp)) (omega arith, omega arith)
+  lowCall-ok (L.End at) o a = due-ok o at
+  lowCall-ok (L.Gives f more at) o a = a
 
-  part-ok : (o at : ℕ) → 4 ≤ at → Ok (lowly (lowsOf tp at) r o tp m)
+  part-ok : (o at : ℕ) → 4 ≤ at → Ok (lowCall (lowsOf tp at) r o tp m)
   unfolding lowsOf
-  part-ok o at b = lowly-ok (lows (suc (length tp)) tp at) o (lows-ok (suc (length tp)) tp at b)
+  part-ok o at b = lowCall-ok (lows (suc (length tp)) tp at) o (lows-ok (suc (length tp)) tp at b)
 
-  begunly-ok : (b : Bool) (o : ℕ) → Ok (begunly b r o tp m)
-  begunly-ok true o = part-ok o 4 (omega arith)
-  begunly-ok false o = due-ok o 4
+  payloadCall-ok : (b : Bool) (o : ℕ) → Ok (payloadCall b r o tp m)
+  payloadCall-ok true o = part-ok o 4 (omega arith)
+  payloadCall-ok false o = due-ok o 4
 
-  begun-ok : (o : Option ℕ) → Ok (begun o r tp m)
+  begun-ok : (o : Option ℕ) → Ok (wordCall o r tp m)
   begun-ok none = omega arith
-  begun-ok (some w) = begunly-ok (leb 2048 w) (w % 2048)
+  begun-ok (some w) = payloadCall-ok (leb 2048 w) (w % 2048)
 
-  fresh-ok : Ok (freshly r tp m)
-  unfolding freshly
+  fresh-ok : Ok (firstCall r tp m)
+  unfolding firstCall
   fresh-ok = by (eqb (streamOf (getD tp 0 0)) (r .stream)) (eqb (versionOf (getD tp 0 0)) 0)
     where
       W : Option ℕ
       W = tpNumberIn (number 0 (take 3 (drop 1 tp)))
 
-      by : (a b : Bool) → Ok (cond a (cond b (begun W r tp m) (gone r 7 m)) (unchanged r (F.Notice 8) 8 m))
+      by : (a b : Bool) → Ok (cond a (cond b (wordCall W r tp m) (gone r 7 m)) (unchanged r (F.Notice 8) 8 m))
       by true true = begun-ok W
       by true false = omega arith
       by false b = omega arith
 
-  staged-ok : (g : Stage) → Staged g (r .walk) → Ok (staged g r tp m)
+  staged-ok : (g : Stage) → Staged g (r .walk) → Ok (stageCall g r tp m)
   unfolding pullOf
   staged-ok G.Fresh s = fresh-ok
   staged-ok (G.Low o) s = part-ok o (r .walk .at) (s .1)
@@ -89,7 +89,7 @@ module _ (r : Receiver) (tp m : List ℕ) where
   unfolding callOf
   call-ok a = by (eqb (length m) (r .limit)) (eqb (length tp) (r .size))
     where
-      by : (x y : Bool) → Ok (cond x (cond y (staged (r .stage) r tp m) (unchanged r (F.Notice 6) 6 m)) (unchanged r F.Refused 1 m))
+      by : (x y : Bool) → Ok (cond x (cond y (stageCall (r .stage) r tp m) (unchanged r (F.Notice 6) 6 m)) (unchanged r F.Refused 1 m))
       by true true = staged-ok (r .stage) (a .stage)
       by true false = omega arith
       by false y = omega arith

@@ -11,10 +11,10 @@ use Rattle.wire.specs.declared.Header.{Header}
 use Rattle.receiver.specs.declared.kind.Kind.{Kind}
 use Rattle.receiver.specs.declared.kind.Kind.the-variants.{Complete, Fill, First, Last, Middle, Reserved}
 use Rattle.receiver.specs.Frame.{Event, closed, entered, opened}
-use Rattle.receiver.specs.Join.{Held, Took, admit, broken, finish, free, further, goes-on, held, holding, meets, notice, ordinary, take-in, told}
+use Rattle.receiver.specs.Join.{Held, Took, admit, broken, finish, free, further, goes-on, held, holding, meets, notice, ordinary, take-in}
 use Rattle.receiver.specs.Kind.{kindOf}
 use Rattle.receiver.specs.Low.{wire}
-use Rattle.receiver.proofs.Flow.{Flow, Follows, Place, closes, enters, feeds-on, loses, next-to, opens, still}
+use Rattle.receiver.proofs.Flow.{Flow, Follows, Place, breaks, closes, enters, feeds-on, loses, next-to, opens, still}
 use Rattle.receiver.proofs.Packets.{Ends-in, Ep, Is, OnePacket, Packet-read, bytesOf, complete, feeds, first, middle, readEp, readEps, series}
 use Rattle.receiver.proofs.Tracing.{Ins, Into, Inv, Rests, alone, bytesOf-append, enters-by, feeds-by, lastly, new, onward, opens-by, readEps-append}
 
@@ -87,6 +87,7 @@ module _ (room : ℕ) where
   -- THE INVARIANT goes on with each event
   follows-inv : {p q : Place} {e : Event wire} → Follows p e q → (s : Held wire) (es : List (Event wire)) → Inv p s es → Then q s e es
   follows-inv loses s es i = omega arith
+  follows-inv breaks s es i = omega arith
   follows-inv (opens {h = h}) s es i = (es, refl, opens-by room (kindOf h) s h es i)
   follows-inv (enters {h = h}) s es (es₀, e, m) =
       subst (λ (l : List (Event wire)). Ins h (h .size) (admit wire room (kindOf h) s (h .content) (h .size) .0) (l ++ entered h ∷ [])) (sym e) (enters-by room (kindOf h) s h es₀ refl m)
@@ -137,10 +138,6 @@ module _ (room : ℕ) where
   no-entering Middle s x n c d e = no-further s n c d e
   no-entering Last s x n c d e = no-further s n c d e
 
-  no-telling : (n c : ℕ) (d : List ℕ) → told wire n ≡ some (ordinary c d) → ⊥
-  no-telling zero c d e = let z : _≡_ {A = ℕ} 0 1 = cc in omega arith
-  no-telling (suc n) c d e = let z : _≡_ {A = ℕ} 0 1 = cc in omega arith
-
   no-closing : (k : Kind) (c : ℕ) (d : List ℕ) → finish wire k free .1 ≡ some (ordinary c d) → ⊥
   no-closing Fill c d e = let z : _≡_ {A = ℕ} 0 1 = cc in omega arith
   no-closing Reserved c d e = let z : _≡_ {A = ℕ} 0 1 = cc in omega arith
@@ -151,7 +148,8 @@ module _ (room : ℕ) where
 
   pub follows-gives : {p q : Place} {e : Event wire} → Follows p e q → (s : Held wire) (es : List (Event wire)) → Inv p s es → (c : ℕ) (d : List ℕ)
       → take-in wire room s e .1 ≡ some (ordinary c d) → Packet-read c d (es ++ e ∷ [])
-  follows-gives (loses {n = n}) s es i c d g = absurd (no-telling n c d g)
+  follows-gives loses s es i c d g = let z : _≡_ {A = ℕ} 0 1 = cc in absurd (omega arith)
+  follows-gives breaks s es i c d g = let z : _≡_ {A = ℕ} 0 1 = cc in absurd (omega arith)
   follows-gives (opens {h = h}) s es i c d g = absurd (no-opening (kindOf h) s (h .content) c d g)
   follows-gives (enters {h = h}) s es i c d g = absurd (no-entering (kindOf h) s (h .content) (h .size) c d g)
   follows-gives feeds-on s es i c d g = let z : _≡_ {A = ℕ} 0 1 = cc in absurd (omega arith)

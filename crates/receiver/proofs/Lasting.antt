@@ -12,9 +12,9 @@ use Rattle.receiver.specs.declared.Find.{Find}
 use Rattle.receiver.specs.declared.Receiver.{Receiver}
 use Rattle.receiver.specs.declared.Stage.{Stage}
 use Rattle.receiver.specs.declared.low.Lows.{Lows}
-use Rattle.receiver.specs.Call.{Gave, begun, begunly, callOf, dueOf, freshly, gone, lowly, plain, staged, startly, unchanged, walkTo}
+use Rattle.receiver.specs.Call.{Gave, wordCall, payloadCall, callOf, dueCall, firstCall, gone, lowCall, ordinaryBy, stageCall, startCall, unchanged, walkTo}
 use Rattle.receiver.specs.Forecast.{Start, dropped, outset}
-use Rattle.receiver.specs.Frame.{Event, Frame, closed, entered, fed, lose, opened, step}
+use Rattle.receiver.specs.Frame.{Event, Frame, closed, entered, fed, gap, lose, opened, step}
 use Rattle.receiver.specs.Join.{Finding, Held, free, held, low, notice, ordinary, stored, take-in}
 use Rattle.receiver.specs.Low.{wire}
 use Rattle.receiver.specs.Lows.{lowsOf}
@@ -27,6 +27,7 @@ use Rattle.receiver.specs.declared.low.Lows.the-variants as L
 module _ (cap : ℕ) where
   stored-length : (s : Held wire) (e : Event wire) (m : List ℕ) → length (stored wire s e m) ≡ length m
   stored-length s (lose n) m = refl
+  stored-length s gap m = refl
   stored-length s (opened h) m = refl
   stored-length s (entered h) m = refl
   stored-length free (fed b) m = refl
@@ -75,44 +76,44 @@ module _ (r : Receiver) (tp m : List ℕ) where
   either true x y a b = a
   either false x y a b = b
 
-  plain-lasts : (x : Option (Finding wire)) (p : Pulled wire) → length (p .room) ≡ length m → Lasts r m (plain x r p)
+  plain-lasts : (x : Option (Finding wire)) (p : Pulled wire) → length (p .room) ≡ length m → Lasts r m (ordinaryBy x r p)
   plain-lasts none p e = record { size = refl; stream = refl; limit = refl; room = e }
   plain-lasts (some (notice n)) p e = record { size = refl; stream = refl; limit = refl; room = e }
   plain-lasts (some (low c d)) p e = record { size = refl; stream = refl; limit = refl; room = e }
   plain-lasts (some (ordinary c d)) p e = record { size = refl; stream = refl; limit = refl; room = e }
 
-  start-lasts : (at : ℕ) (t : Start wire) → Lasts r m (startly r at t tp m)
+  start-lasts : (at : ℕ) (t : Start wire) → Lasts r m (startCall r at t tp m)
   start-lasts at t =
       let p = from (length m) t (walkTo r at) tp m in
       plain-lasts (p .find) p (pull-length (length m) (t .frame) (at + t .past) (heldOf (r .walk .kept) m) m (t .told) (drop (at + t .past) tp))
 
-  due-lasts : (o at : ℕ) → Lasts r m (dueOf r o at tp m)
-  unfolding dueOf
+  due-lasts : (o at : ℕ) → Lasts r m (dueCall r o at tp m)
+  unfolding dueCall
   due-lasts o at = start-lasts at (outset wire (frameOf (r .walk .phase)) o (at - 4) (drop at tp))
 
-  low-lasts : (l : Lows) (o : ℕ) → Lasts r m (lowly l r o tp m)
+  low-lasts : (l : Lows) (o : ℕ) → Lasts r m (lowCall l r o tp m)
   low-lasts (L.Broken at) o = start-lasts at (dropped wire 11 (drop at tp))
   low-lasts (L.End at) o = due-lasts o at
   low-lasts (L.Gives f more at) o = record { size = refl; stream = refl; limit = refl; room = refl }
 
-  begunly-lasts : (b : Bool) (o : ℕ) → Lasts r m (begunly b r o tp m)
-  begunly-lasts true o = low-lasts (lowsOf tp 4) o
-  begunly-lasts false o = due-lasts o 4
+  payloadCall-lasts : (b : Bool) (o : ℕ) → Lasts r m (payloadCall b r o tp m)
+  payloadCall-lasts true o = low-lasts (lowsOf tp 4) o
+  payloadCall-lasts false o = due-lasts o 4
 
-  begun-lasts : (o : Option ℕ) → Lasts r m (begun o r tp m)
+  begun-lasts : (o : Option ℕ) → Lasts r m (wordCall o r tp m)
   begun-lasts none = record { size = refl; stream = refl; limit = refl; room = refl }
-  begun-lasts (some w) = begunly-lasts (leb 2048 w) (w % 2048)
+  begun-lasts (some w) = payloadCall-lasts (leb 2048 w) (w % 2048)
 
-  fresh-lasts : Lasts r m (freshly r tp m)
-  unfolding freshly
+  fresh-lasts : Lasts r m (firstCall r tp m)
+  unfolding firstCall
   fresh-lasts =
-      let W = begun (tpNumberIn (number 0 (take 3 (drop 1 tp)))) r tp m in
+      let W = wordCall (tpNumberIn (number 0 (take 3 (drop 1 tp)))) r tp m in
       let still : (f : Find) (n : ℕ) → Lasts r m (unchanged r f n m) = λ f n. record { size = refl; stream = refl; limit = refl; room = refl } in
       either (eqb (streamOf (getD tp 0 0)) (r .stream)) (cond (eqb (versionOf (getD tp 0 0)) 0) W (gone r 7 m)) (unchanged r (F.Notice 8) 8 m)
       (either (eqb (versionOf (getD tp 0 0)) 0) W (gone r 7 m) (begun-lasts (tpNumberIn (number 0 (take 3 (drop 1 tp))))) (record { size = refl; stream = refl; limit = refl; room = refl }))
       (still (F.Notice 8) 8)
 
-  staged-lasts : (g : Stage) → Lasts r m (staged g r tp m)
+  staged-lasts : (g : Stage) → Lasts r m (stageCall g r tp m)
   unfolding pullOf
   staged-lasts S.Fresh = fresh-lasts
   staged-lasts (S.Low o) = low-lasts (lowsOf tp (r .walk .at)) o
@@ -127,6 +128,6 @@ module _ (r : Receiver) (tp m : List ℕ) where
   call-lasts =
       let six = unchanged r (F.Notice 6) 6 m in
       let one = unchanged r F.Refused 1 m in
-      either (eqb (length m) (r .limit)) (cond (eqb (length tp) (r .size)) (staged (r .stage) r tp m) six) one
-      (either (eqb (length tp) (r .size)) (staged (r .stage) r tp m) six (staged-lasts (r .stage)) (record { size = refl; stream = refl; limit = refl; room = refl }))
+      either (eqb (length m) (r .limit)) (cond (eqb (length tp) (r .size)) (stageCall (r .stage) r tp m) six) one
+      (either (eqb (length tp) (r .size)) (stageCall (r .stage) r tp m) six (staged-lasts (r .stage)) (record { size = refl; stream = refl; limit = refl; room = refl }))
       (record { size = refl; stream = refl; limit = refl; room = refl })

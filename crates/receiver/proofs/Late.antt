@@ -13,7 +13,7 @@ use Rattle.receiver.specs.declared.kind.Kind.the-variants.{Complete, Fil
 use Rattle.receiver.specs.declared.walk.Phase.{Phase}
 use Rattle.receiver.specs.declared.walk.Phase.the-variants.{Body, Head, Judged, Lost}
 use Rattle.receiver.specs.Forecast.{Start, agree, dropped, foretold, judge, outset, start}
-use Rattle.receiver.specs.Frame.{Event, Frame, body, closed, ending, entered, fed, head, idle, lose, lost, opened, step, whole}
+use Rattle.receiver.specs.Frame.{Event, Frame, body, closed, ending, entered, fed, gap, head, idle, lose, lost, opened, step, whole}
 use Rattle.receiver.specs.Join.{Finding, Held, Took, admit, broken, finish, free, further, goes-on, handed, held, low, meets, notice, ordinary, stored, take-in}
 use Rattle.receiver.specs.Kind.{kindOf}
 use Rattle.receiver.specs.Low.{wire}
@@ -22,6 +22,7 @@ use Rattle.receiver.specs.State.{todoOf}
 
 abbrev pub Late : Event wire → Type 0
 Late (lose n) = 10 ≤ n
+Late gap = 0 ≤ 0
 Late (opened h) = 0 ≤ 0
 Late (entered h) = 0 ≤ 0
 Late (fed b) = 0 ≤ 0
@@ -83,8 +84,8 @@ module _ (cap : ℕ) where
   admit-late Last s c n = further-late s n
 
   take-late : (s : Held wire) (e : Event wire) → Late e → LateFind (take-in wire cap s e .1)
-  take-late s (lose zero) l = omega arith
-  take-late s (lose (suc n)) l = l
+  take-late s (lose n) l = l
+  take-late s gap l = omega arith
   take-late s (opened h) l = meets-late (kindOf h) s (h .content)
   take-late s (entered h) l = admit-late (kindOf h) s (h .content) (h .size)
   take-late s (fed b) l = omega arith

@@ -3,6 +3,7 @@ pub mod Run
 pub mod Heading
 pub mod Turning
 pub mod Bodies
+pub mod Advancing
 pub mod Foretelling
 pub mod SettingOut
 pub mod Walking
@@ -10,6 +11,10 @@ pub mod Calling
 pub mod Parting
 pub mod TakingUp
 pub mod Answering
+pub mod Piecing
+pub mod Pieced
+pub mod Tiling
+pub mod Eventing
 pub mod Pinned
 pub mod Pulling
 pub mod Rest
@@ -20,6 +25,7 @@ pub mod Late
 pub mod Ending
 pub mod Bounds
 pub mod Called
+pub mod Remaining
 pub mod Listening
 pub mod Flow
 pub mod Packets

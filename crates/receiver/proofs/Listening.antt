@@ -1,6 +1,7 @@
 -- ANY NUMBER OF TPS AND TOLD GAPS, from a fresh TP on: the finds of all calls are those that the definitions list.
 -- Assumes nothing.
 use mathlib.Core.Path.{ap, refl, sym, _∙_, _≡_}
+use mathlib.Core.Option.{none}
 use mathlib.Core.Bool.{Bool, cond, false, true}
 use mathlib.Core.List.{List, [], _++_, _∷_}
 use Prim.Native.Nat.{ℕ}
@@ -9,7 +10,7 @@ use lib.ListN.{length}
 use borrow.Author.Tests.{eqb-false, eqb-true}
 use Rattle.receiver.specs.declared.Receiver.{Receiver}
 use Rattle.receiver.specs.declared.Step.{Step}
-use Rattle.receiver.specs.Call.{Gave, Gives, OpenedAs, callOf, freshOf, gapOf, stepped}
+use Rattle.receiver.specs.Call.{Answered, Gave, Gives, OpenedAs, callOf, freshOf, gapOf, outside, stepped}
 use Rattle.receiver.specs.Frame.{lost}
 use Rattle.receiver.specs.Join.{Finding, free}
 use Rattle.receiver.specs.Low.{wire}
@@ -105,9 +106,11 @@ listening {r} {m} (gap-on {q = q} {xs = xs} g l) a e f =
 
 -- what is opened is fresh
 pub opened-fresh : (size stream limit : ℕ) (r : Receiver) → OpenedAs size stream limit (O.Ready r) → r ≡ freshOf size stream limit
-opened-fresh size stream limit r o = by (ltb size 16) (ltb 2051 size) (ltb 15 stream) (ltb 131072 limit) (o .same)
+opened-fresh size stream limit r o =
+    by (ltb size 16) (ltb 2051 size) (ltb 15 stream) (ltb 131072 limit) (ap (λ (x : Answered). x .opened) (o .same))
   where
-    by : (a b c d : Bool) → O.Ready r ≡ cond a O.Refused (cond b O.Refused (cond c O.Refused (cond d O.Refused (O.Ready (freshOf size stream limit))))) → r ≡ freshOf size stream limit
+    by : (a b c d : Bool) → O.Ready r ≡ cond a outside (cond b outside (cond c outside (cond d outside (record { opened = O.Ready (freshOf size stream limit); number = none })))) .opened
+        → r ≡ freshOf size stream limit
     by true b c d e = cc
     by false true c d e = cc
     by false false true d e = cc

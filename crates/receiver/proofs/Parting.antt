@@ -18,14 +18,17 @@ use Rattle.receiver.specs.declared.walk.Kept.the-variants.{Empty}
 use Rattle.receiver.specs.declared.walk.Phase.{Phase}
 use Rattle.receiver.specs.declared.walk.Phase.the-variants.{Lost}
 use Rattle.receiver.specs.declared.walk.Walk.{Walk}
-use Rattle.receiver.specs.Call.{Gave, Gives, dueOf, lowly, plainly, startly, walkTo}
+use Rattle.receiver.specs.Call.{Gave, Gives, dueCall, lowCall, ordinaryCall, startCall, walkTo}
 use Rattle.receiver.specs.Forecast.{Start, dropped, outset, start}
 use Rattle.receiver.specs.Low.{wire}
 use Rattle.receiver.specs.Lows.{lowsOf}
-use Rattle.receiver.specs.Outset.{ReadsOn, SetsOut, placeOf, setOut, uponOf}
+use Rattle.receiver.specs.Outset.{placeOf, setOutOf, uponOf}
+use Rattle.receiver.specs.Pieces.{stepOf}
+use Rattle.receiver.specs.InOutset.{ReadsOn, SetsOut, setOut}
+use Rattle.receiver.specs.InStages.{Leads, Lent, partCall, setCall}
 use Rattle.receiver.specs.State.{Sound, frameOf}
-use Rattle.receiver.specs.Steps.{Leads, Lent, partly, setly, stepOf}
 use Rattle.receiver.proofs.Calling.{drop-gives, lose-gives, low-gives}
+use Rattle.receiver.proofs.SettingOut.{sets-out}
 use Rattle.receiver.proofs.Walking.{low-in}
 use Rattle.receiver.specs.declared.Find.the-variants as F
 use Rattle.receiver.specs.declared.low.Lows.the-variants as L
@@ -43,7 +46,7 @@ leads-by g h r tp (C.Reads w) e l = record { same = λ m f. l .same m f ∙ e m;
 -- the courses
 
 drop-leads : (r : Receiver) (at : ℕ) (tp : List ℕ) (n : ℕ) → 16 ≤ r .size → length tp ≡ r .size → at ≤ length tp
-    → Leads (startly r at (dropped wire (suc n) (drop at tp)) tp) r tp (C.Gives (stepOf r Plain (length tp) Lost Empty (F.Notice (suc n))))
+    → Leads (startCall r at (dropped wire n (drop at tp)) tp) r tp (C.Gives (stepOf r Plain (length tp) Lost Empty (F.Notice n)))
 unfolding Leads
 drop-leads r at tp n size whole b = λ m f. drop-gives r tp m size whole f n at b
 
@@ -51,21 +54,25 @@ lent-in : (r : Receiver) (at : ℕ) (tp : List ℕ) → Lent r at tp → at ≤ 
 lent-in r at tp l = let p = l .walk .at in let q = l .whole in omega arith
 
 module _ (r : Receiver) (at n : ℕ) (tp : List ℕ) (s : Outset.Start) (l : Lent r at tp) where
-  pub set-reads : (x : Walk) → SetsOut (walkTo r at) n tp s → s ≡ O.Reads x → Leads (setly r at n tp) r tp (C.Reads x)
+  -- what the forecast decided answers the call
+  decided : at + n ≤ length tp → s ≡ setOutOf (walkTo r at) n tp → SetsOut (walkTo r at) n tp s
+  decided b g = subst (SetsOut (walkTo r at) n tp) (sym g) (sets-out (walkTo r at) n tp b (l .settled))
+
+  pub set-reads : (x : Walk) → at + n ≤ length tp → s ≡ setOutOf (walkTo r at) n tp → s ≡ O.Reads x → Leads (setCall r at n tp) r tp (C.Reads x)
   unfolding SetsOut Leads setOut
-  set-reads x g e =
-      let h : ReadsOn (walkTo r at) n tp x = subst (SetsOut (walkTo r at) n tp) e g in
+  set-reads x b g e =
+      let h : ReadsOn (walkTo r at) n tp x = subst (SetsOut (walkTo r at) n tp) e (decided b g) in
       record {
-        same = λ m f. ap (plainly r) (h .same m);
+        same = λ m f. ap (ordinaryCall r) (h .same m);
         sound = subst (λ (k : ℕ). Sound (r .limit) k x) (l .whole) (h .sound (r .limit) (subst (λ (k : ℕ). Sound (r .limit) k (walkTo r at)) (sym (l .whole)) (l .walk)));
       }
 
-  pub set-loses : (i : ℕ) (there : Phase) → at + n ≤ length tp → there ≡ uponOf (at + n) (length tp) → SetsOut (walkTo r at) n tp s → s ≡ O.Loses i
-      → Leads (setly r at n tp) r tp (C.Gives (stepOf r Plain (at + n) there Empty (F.Notice i)))
+  pub set-loses : (i : ℕ) (there : Phase) → at + n ≤ length tp → there ≡ uponOf (at + n) (length tp) → s ≡ setOutOf (walkTo r at) n tp → s ≡ O.Loses i
+      → Leads (setCall r at n tp) r tp (C.Gives (stepOf r Plain (at + n) there Empty (F.Notice i)))
   unfolding SetsOut Leads
   set-loses i there b u g e = λ m f.
-      subst (λ (p : Phase). Gives (setly r at n tp m) (stepOf r Plain (at + n) p Empty (F.Notice i)) tp m) (sym u)
-      (lose-gives r tp m (l .size) (l .whole) f at n i b (subst (SetsOut (walkTo r at) n tp) e g m))
+      subst (λ (p : Phase). Gives (setCall r at n tp m) (stepOf r Plain (at + n) p Empty (F.Notice i)) tp m) (sym u)
+      (lose-gives r tp m (l .size) (l .whole) f at n i b (subst (SetsOut (walkTo r at) n tp) e (decided b g) m))
 
 -- behind the low-latency part
 
@@ -113,15 +120,15 @@ module _ (r : Receiver) (o at : ℕ) (tp : List ℕ) (l : Lent r at tp) where
           rw (e, lt-leb (at - 4 + length (drop at tp)) o v, le-ltb o (at - 4) w)
           (ap (λ (n : ℕ). start wire (frameOf (r .walk .phase)) n (drop at tp)) z)
 
-  due-by : (q : Course) (p : Place) → placeOf o at (length tp) ≡ p → Leads (startly r at (placed p) tp) r tp q → Leads (dueOf r o at tp) r tp q
-  unfolding dueOf
+  due-by : (q : Course) (p : Place) → placeOf o at (length tp) ≡ p → Leads (startCall r at (placed p) tp) r tp q → Leads (dueCall r o at tp) r tp q
+  unfolding dueCall
   due-by q p e g =
-      leads-by (dueOf r o at tp) (startly r at (placed p) tp) r tp q (λ m. ap (λ (t : Start wire). startly r at t tp m) (sym (outset-at ∙ ap placed e))) g
+      leads-by (dueCall r o at tp) (startCall r at (placed p) tp) r tp q (λ m. ap (λ (t : Start wire). startCall r at t tp m) (sym (outset-at ∙ ap placed e))) g
 
-  pub due-outside : placeOf o at (length tp) ≡ Outside → Leads (dueOf r o at tp) r tp (C.Gives (stepOf r Plain (length tp) Lost Empty (F.Notice 10)))
-  due-outside e = due-by _ Outside e (drop-leads r at tp 9 (l .size) (l .whole) (lent-in r at tp l))
+  pub due-outside : placeOf o at (length tp) ≡ Outside → Leads (dueCall r o at tp) r tp (C.Gives (stepOf r Plain (length tp) Lost Empty (F.Notice 10)))
+  due-outside e = due-by _ Outside e (drop-leads r at tp 10 (l .size) (l .whole) (lent-in r at tp l))
 
-  pub due-behind : (q : Course) (n : ℕ) → placeOf o at (length tp) ≡ Behind n → Leads (setly r at n tp) r tp q → Leads (dueOf r o at tp) r tp q
+  pub due-behind : (q : Course) (n : ℕ) → placeOf o at (length tp) ≡ Behind n → Leads (setCall r at n tp) r tp q → Leads (dueCall r o at tp) r tp q
   due-behind q n e g = due-by q (Behind n) e g
 
 -- the low-latency part, if there is one
@@ -130,9 +137,9 @@ module _ (r : Receiver) (low : Bool) (o at : ℕ) (tp : List ℕ) (l : Lent r at
   abbrev walked : Lows
   walked = cond low (lowsOf tp at) (L.End at)
 
-  part-by : (q : Course) (x : Lows) (h : List ℕ → Gave) → walked ≡ x → ((m : List ℕ) → h m ≡ lowly x r o tp m) → Leads h r tp q
-      → Leads (partly low r o at tp) r tp q
-  part-by q x h e s g = leads-by (partly low r o at tp) h r tp q (λ m. s m ∙ ap (λ (x : Lows). lowly x r o tp m) (sym e)) g
+  part-by : (q : Course) (x : Lows) (h : List ℕ → Gave) → walked ≡ x → ((m : List ℕ) → h m ≡ lowCall x r o tp m) → Leads h r tp q
+      → Leads (partCall low r o at tp) r tp q
+  part-by q x h e s g = leads-by (partCall low r o at tp) h r tp q (λ m. s m ∙ ap (λ (x : Lows). lowCall x r o tp m) (sym e)) g
 
   pub part-lent : (i : ℕ) → walked ≡ L.End i → Lent r i tp
   part-lent i e =
@@ -141,20 +148,20 @@ module _ (r : Receiver) (low : Bool) (o at : ℕ) (tp : List ℕ) (l : Lent r at
       let w = l .whole in
       record { size = l .size; whole = l .whole; payload = omega arith; walk = record { at = omega arith; phase = l .walk .phase }; settled = l .settled }
 
-  pub part-broken : (i : ℕ) → walked ≡ L.Broken i → Leads (partly low r o at tp) r tp (C.Gives (stepOf r Plain (length tp) Lost Empty (F.Notice 11)))
+  pub part-broken : (i : ℕ) → walked ≡ L.Broken i → Leads (partCall low r o at tp) r tp (C.Gives (stepOf r Plain (length tp) Lost Empty (F.Notice 11)))
   part-broken i e =
-      part-by _ (L.Broken i) (startly r i (dropped wire 11 (drop i tp)) tp) e (λ m. refl)
-      (drop-leads r i tp 10 (l .size) (l .whole) (low-in low tp at (L.Broken i) (lent-in r at tp l) e .1))
+      part-by _ (L.Broken i) (startCall r i (dropped wire 11 (drop i tp)) tp) e (λ m. refl)
+      (drop-leads r i tp 11 (l .size) (l .whole) (low-in low tp at (L.Broken i) (lent-in r at tp l) e .1))
 
-  pub part-due : (q : Course) (i : ℕ) → walked ≡ L.End i → Leads (dueOf r o i tp) r tp q → Leads (partly low r o at tp) r tp q
-  part-due q i e g = part-by q (L.End i) (dueOf r o i tp) e (λ m. refl) g
+  pub part-due : (q : Course) (i : ℕ) → walked ≡ L.End i → Leads (dueCall r o i tp) r tp q → Leads (partCall low r o at tp) r tp q
+  part-due q i e g = part-by q (L.End i) (dueCall r o i tp) e (λ m. refl) g
 
   pub part-gives : (f : Find) (more : Bool) (i : ℕ) → o < 2048 → walked ≡ L.Gives f more i
-      → Leads (partly low r o at tp) r tp (C.Gives (stepOf r (cond more (Low o) (Due o)) i (r .walk .phase) (r .walk .kept) f))
+      → Leads (partCall low r o at tp) r tp (C.Gives (stepOf r (cond more (Low o) (Due o)) i (r .walk .phase) (r .walk .kept) f))
   unfolding Leads
   part-gives f more i s e =
       let b = low-in low tp at (L.Gives f more i) (lent-in r at tp l) e in
       let p = l .payload in
       let q = stepOf r (cond more (Low o) (Due o)) i (r .walk .phase) (r .walk .kept) f in
-      part-by (C.Gives q) (L.Gives f more i) (lowly (L.Gives f more i) r o tp) e (λ m. refl)
+      part-by (C.Gives q) (L.Gives f more i) (lowCall (L.Gives f more i) r o tp) e (λ m. refl)
       (λ m u. low-gives r tp m (l .size) (l .whole) u o f more i at s (omega arith) (b .1) (l .walk) (l .settled))

@@ -14,7 +14,7 @@ use Rattle.receiver.specs.declared.walk.Kept.{Kept}
 use Rattle.receiver.specs.declared.walk.Kept.the-variants.{Empty, Of}
 use Rattle.receiver.specs.declared.walk.Phase.{Phase}
 use Rattle.receiver.specs.declared.walk.Phase.the-variants.{Body, Head, Judged, Lost}
-use Rattle.receiver.specs.Call.{Gave, Gives, OpenedAs, stepped}
+use Rattle.receiver.specs.Call.{Answered, Gave, Gives, OpenedAs, stepped}
 use Rattle.receiver.specs.Frame.{Frame, body, head, idle, lost}
 use Rattle.receiver.specs.Low.{wire}
 use Rattle.receiver.specs.State.{Fine, frameOf, headed, heldOf, keeps, todoOf}
@@ -122,4 +122,4 @@ pinned g tp q q′ m m′ a b =
 
 -- an opening and a told gap are equations already
 pub opening-pinned : (size stream limit : ℕ) (q q′ : Opened) → OpenedAs size stream limit q → OpenedAs size stream limit q′ → q ≡ q′
-opening-pinned size stream limit q q′ a b = a .same ∙ sym (b .same)
+opening-pinned size stream limit q q′ a b = ap (λ (x : Answered). x .opened) (a .same ∙ sym (b .same))

@@ -11,7 +11,7 @@ use Rattle.receiver.specs.declared.Receiver.{Receiver}
 use Rattle.receiver.specs.declared.Stage.{Stage}
 use Rattle.receiver.specs.declared.low.Llep.{Llep}
 use Rattle.receiver.specs.declared.low.Llep.the-variants.{Broken, Whole}
-use Rattle.receiver.specs.Call.{Gave, dueOf, plain, plainly, startly, walkTo}
+use Rattle.receiver.specs.Call.{Gave, dueCall, ordinaryBy, ordinaryCall, startCall, walkTo}
 use Rattle.receiver.specs.Forecast.{Start, dropped, outset, start}
 use Rattle.receiver.specs.Frame.{Event, Frame, lose, lost}
 use Rattle.receiver.specs.Join.{Finding, Held, finds, free, holding, listed, low, notice, ordinary}
@@ -82,33 +82,33 @@ module _ (cap : ℕ) where
       Q.pulled-first wire cap tp f at s m es p e
       ∙ ap (λ (x : Option (Finding wire)). Q.ahead-of wire cap (listed wire x) (Q.coming wire cap (p .held) (p .todo) (p .frame) (drop (p .at) tp))) q
 
-  pub plainly-by : (x : Option (Finding wire)) (r : Receiver) (tp : List ℕ) (f : Frame wire) (at : ℕ) (s : Held wire) (m : List ℕ) (es : List (Event wire)) (p : Pulled wire)
-      → pull wire cap f at (meet wire cap s m es) (drop at tp) ≡ p → p .find ≡ x → plainRest s es f at tp ≡ afterwards (plain x r p) tp
-  plainly-by none r tp f at s m es p e q = ap of (Q.none-left wire cap tp f at s m es p e q)
-  plainly-by (some (notice n)) r tp f at s m es p e q = ap of (first (notice n) tp f at s m es p e q)
-  plainly-by (some (low c d)) r tp f at s m es p e q = ap of (first (low c d) tp f at s m es p e q)
-  plainly-by (some (ordinary c d)) r tp f at s m es p e q = ap of (first (ordinary c d) tp f at s m es p e q)
+  pub ordinaryCall-by : (x : Option (Finding wire)) (r : Receiver) (tp : List ℕ) (f : Frame wire) (at : ℕ) (s : Held wire) (m : List ℕ) (es : List (Event wire)) (p : Pulled wire)
+      → pull wire cap f at (meet wire cap s m es) (drop at tp) ≡ p → p .find ≡ x → plainRest s es f at tp ≡ afterwards (ordinaryBy x r p) tp
+  ordinaryCall-by none r tp f at s m es p e q = ap of (Q.none-left wire cap tp f at s m es p e q)
+  ordinaryCall-by (some (notice n)) r tp f at s m es p e q = ap of (first (notice n) tp f at s m es p e q)
+  ordinaryCall-by (some (low c d)) r tp f at s m es p e q = ap of (first (low c d) tp f at s m es p e q)
+  ordinaryCall-by (some (ordinary c d)) r tp f at s m es p e q = ap of (first (ordinary c d) tp f at s m es p e q)
 
   pub start-rest : (r : Receiver) (t : Start wire) (at : ℕ) (tp m : List ℕ) → cap ≡ length m
-      → startRest t (heldOf (r .walk .kept) m) at tp ≡ afterwards (startly r at t tp m) tp
+      → startRest t (heldOf (r .walk .kept) m) at tp ≡ afterwards (startCall r at t tp m) tp
   start-rest r t at tp m e =
       let p = from cap t (walkTo r at) tp m in
-      plainly-by (p .find) r tp (t .frame) (at + t .past) (heldOf (r .walk .kept) m) m (t .told) p refl refl
-      ∙ ap (λ (n : ℕ). afterwards (plainly r (from n t (walkTo r at) tp m)) tp) e
+      ordinaryCall-by (p .find) r tp (t .frame) (at + t .past) (heldOf (r .walk .kept) m) m (t .told) p refl refl
+      ∙ ap (λ (n : ℕ). afterwards (ordinaryCall r (from n t (walkTo r at) tp m)) tp) e
 
   pub due-rest : (r : Receiver) (o at : ℕ) (tp m : List ℕ) → cap ≡ length m
-      → dueRest (frameOf (r .walk .phase)) (heldOf (r .walk .kept) m) o at tp ≡ afterwards (dueOf r o at tp m) tp
-  unfolding dueRest dueOf
+      → dueRest (frameOf (r .walk .phase)) (heldOf (r .walk .kept) m) o at tp ≡ afterwards (dueCall r o at tp m) tp
+  unfolding dueRest dueCall
   due-rest r o at tp m e = start-rest r (outset wire (frameOf (r .walk .phase)) o (at - 4) (drop at tp)) at tp m e
 
   -- out of step no more comes
-  pub lost-rest : (n : ℕ) (s : Held wire) (at : ℕ) (tp : List ℕ) → startRest (dropped wire (suc n) (drop at tp)) s at tp ≡ (notice (suc n) ∷ [], standing lost free)
+  pub lost-rest : (n : ℕ) (s : Held wire) (at : ℕ) (tp : List ℕ) → startRest (dropped wire n (drop at tp)) s at tp ≡ (notice n ∷ [], standing lost free)
   lost-rest n s at tp = by (drop (at + length (drop at tp)) tp)
     where
-      by : (l : List ℕ) → of (Q.coming wire cap s (lose (suc n) ∷ []) lost l) ≡ (notice (suc n) ∷ [], standing lost free)
+      by : (l : List ℕ) → of (Q.coming wire cap s (lose n ∷ []) lost l) ≡ (notice n ∷ [], standing lost free)
       by [] = refl
       by (b ∷ l) = by l
 
   -- what a TP brings, from what is held
-  abbrev pub heardly : Held wire → Heard → Listing
-  heardly s h = (h .lows ++ finds wire cap s (h .told), standing (h .frame) (holding wire cap s (h .told)))
+  abbrev pub heardFrom : Held wire → Heard → Listing
+  heardFrom s h = (h .lows ++ finds wire cap s (h .told), standing (h .frame) (holding wire cap s (h .told)))

@@ -7,7 +7,8 @@ use Prim.Native.Nat.{suc, zero, ℕ, _+_, _<_, _≤_}
 use native.Mathlib.Omega.{arith}
 use lib.Dec.{eqb, ltb}
 use lib.ListN.{drop, length, length-drop}
-use borrow.Author.Tests.{eq-eqb, ltb-false, ltb-true, ne-eqb}
+use borrow.Author.Tests.{eq-eqb, eqb-false, eqb-true, ltb-false, ltb-true, ne-eqb}
+use Rattle.receiver.specs.declared.outset.Fore.{Fore}
 use Rattle.receiver.specs.declared.outset.Fore.the-variants.{At, Bad, Off}
 use Rattle.receiver.specs.declared.outset.Start.the-variants.{Loses, Reads}
 use Rattle.receiver.specs.declared.walk.Kept.{Kept}
@@ -18,10 +19,11 @@ use Rattle.receiver.specs.declared.walk.Walk.{Walk}
 use Rattle.receiver.specs.Forecast.{Start, agree, between, foretold, inside, judge, off, phase, resume, set-out, start, upon}
 use Rattle.receiver.specs.Frame.{Event, Frame, idle, lose, lost}
 use Rattle.receiver.specs.Low.{wire}
-use Rattle.receiver.specs.Outset.{SetsOut, foreOf, seen, setOut, uponOf}
+use Rattle.receiver.specs.Outset.{foreOf, outBy, seen, setOutOf, uponOf}
+use Rattle.receiver.specs.InWalk.{shown}
+use Rattle.receiver.specs.InOutset.{SetsOut, setOut}
 use Rattle.receiver.specs.Pull.{meet, pull}
 use Rattle.receiver.specs.State.{Fine, Roomy, Settled, frameOf, from, heldOf, pullOf, todoOf}
-use Rattle.receiver.specs.Turns.{shown}
 use Rattle.receiver.specs.Forecast as F
 
 -- what the forecast decides
@@ -98,7 +100,7 @@ settled-todo (Body h zero) s = absurd (omega arith)
 settled-todo (Body h (suc n)) s = refl
 
 module _ (w : Walk) (n : ℕ) (tp : List ℕ) where
-  pub out-off : w .at + n ≤ length tp → foreOf (w .phase) (drop (w .at) tp) ≡ Off
+  out-off : w .at + n ≤ length tp → foreOf (w .phase) (drop (w .at) tp) ≡ Off
       → SetsOut w n tp (Reads (record { at = w .at + n; phase = uponOf (w .at + n) (length tp); kept = w .kept }))
   unfolding SetsOut foreOf setOut pullOf
   out-off fits e =
@@ -111,28 +113,28 @@ module _ (w : Walk) (n : ℕ) (tp : List ℕ) where
         sound = λ cap s. record { at = fits; phase = upon-fine cap (w .at + n) (length tp) (w .kept) (roomy cap (w .phase) (w .kept) (s .phase)) };
       }
 
-  lost-by : (i : ℕ) → start wire (frameOf (w .phase)) n (drop (w .at) tp) ≡ resume wire (lose (suc i) ∷ []) n (drop (w .at) tp)
-      → SetsOut w n tp (Loses (suc i))
+  lost-by : (i : ℕ) → start wire (frameOf (w .phase)) n (drop (w .at) tp) ≡ resume wire (lose i ∷ []) n (drop (w .at) tp)
+      → SetsOut w n tp (Loses i)
   unfolding SetsOut setOut shown
   lost-by i z = λ m.
       let u = upon-frame (w .at) n tp in
       let v = upon-todo (w .at + n) (length tp) in
       rw (u, v) (sym (ap (λ (t : Start wire). from (length m) t w tp m) z))
 
-  pub out-bad : foreOf (w .phase) (drop (w .at) tp) ≡ Bad → SetsOut w n tp (Loses 12)
+  out-bad : foreOf (w .phase) (drop (w .at) tp) ≡ Bad → SetsOut w n tp (Loses 12)
   unfolding foreOf
   out-bad e =
       let f = frameOf (w .phase) in
-      lost-by 11 (by-bad (phase wire f) (foretold wire f (drop (w .at) tp)) f n (drop (w .at) tp) refl e)
+      lost-by 12 (by-bad (phase wire f) (foretold wire f (drop (w .at) tp)) f n (drop (w .at) tp) refl e)
 
-  pub out-else : (k : ℕ) → foreOf (w .phase) (drop (w .at) tp) ≡ At k → (k ≡ n → ⊥) → SetsOut w n tp (Loses 13)
+  out-else : (k : ℕ) → foreOf (w .phase) (drop (w .at) tp) ≡ At k → (k ≡ n → ⊥) → SetsOut w n tp (Loses 13)
   unfolding foreOf
   out-else k e d =
       let f = frameOf (w .phase) in
-      lost-by 12 (by-at k (phase wire f) (foretold wire f (drop (w .at) tp)) f n (drop (w .at) tp) refl e
+      lost-by 13 (by-at k (phase wire f) (foretold wire f (drop (w .at) tp)) f n (drop (w .at) tp) refl e
       ∙ ap (λ (b : Bool). agree wire b f n (drop (w .at) tp)) (ne-eqb k n d))
 
-  pub out-agree : (k : ℕ) → foreOf (w .phase) (drop (w .at) tp) ≡ At k → k ≡ n → Settled (w .phase) → SetsOut w n tp (Reads w)
+  out-agree : (k : ℕ) → foreOf (w .phase) (drop (w .at) tp) ≡ At k → k ≡ n → Settled (w .phase) → SetsOut w n tp (Reads w)
   unfolding SetsOut foreOf setOut pullOf
   out-agree k e d s =
       let f = frameOf (w .phase) in
@@ -147,3 +149,27 @@ module _ (w : Walk) (n : ℕ) (tp : List ℕ) where
             ∙ ap (λ (i : ℕ). pull wire (length m) f i (meet wire (length m) (heldOf (w .kept) m) m []) (drop i tp)) y);
         sound = λ cap g. g;
       }
+
+  -- WHAT THE FORECAST DECIDES answers the call that sets about the bytes
+  pub sets-out : w .at + n ≤ length tp → Settled (w .phase) → SetsOut w n tp (setOutOf w n tp)
+  unfolding setOutOf
+  sets-out fits s = by (foreOf (w .phase) (drop (w .at) tp)) refl
+    where
+      by : (f : Fore) → foreOf (w .phase) (drop (w .at) tp) ≡ f → SetsOut w n tp (outBy f w n (length tp))
+      by Off e = out-off fits e
+      by Bad e = out-bad e
+      by (At k) e = go (eqb k n) refl
+        where
+          go : (b : Bool) → eqb k n ≡ b → SetsOut w n tp (cond b (Reads w) (Loses 13))
+          go true q = out-agree k e (eqb-true k n q) s
+          go false q = out-else k e (eqb-false k n q)
+
+  pub set-by : (f : Fore) → foreOf (w .phase) (drop (w .at) tp) ≡ f → outBy f w n (length tp) ≡ setOutOf w n tp
+  unfolding setOutOf
+  set-by f e = sym (ap (λ (f : Fore). outBy f w n (length tp)) e)
+
+  pub set-agree : (k : ℕ) → foreOf (w .phase) (drop (w .at) tp) ≡ At k → k ≡ n → Reads w ≡ setOutOf w n tp
+  set-agree k e q = sym (ap (λ (b : Bool). cond b (Reads w) (Loses 13)) (eq-eqb k n q)) ∙ set-by (At k) e
+
+  pub set-else : (k : ℕ) → foreOf (w .phase) (drop (w .at) tp) ≡ At k → (k ≡ n → ⊥) → Loses 13 ≡ setOutOf w n tp
+  set-else k e q = sym (ap (λ (b : Bool). cond b (Reads w) (Loses 13)) (ne-eqb k n q)) ∙ set-by (At k) e

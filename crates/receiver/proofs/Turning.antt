@@ -24,7 +24,8 @@ use Rattle.receiver.specs.Kind.{kindOf}
 use Rattle.receiver.specs.Low.{wire}
 use Rattle.receiver.specs.Pull.{Pulled, meet, met, pull}
 use Rattle.receiver.specs.State.{Roomy, Sound, heldOf, pullOf}
-use Rattle.receiver.specs.Turns.{Turned, admitOf, emptyOf, finishOf, fitsOf, furtherOf, goes, handedOf, holdsOf, meetsOf, openedOf, shown, stops, toil, walkAt, wholeOf}
+use Rattle.receiver.specs.Turns.{admitOf, emptyOf, finishOf, fitsOf, furtherOf, goes, handedOf, holdsOf, meetsOf, openedOf, stops, toil, walkAt, wholeOf}
+use Rattle.receiver.specs.InWalk.{Carries, shown}
 use Rattle.receiver.proofs.Heading.{on-with}
 
 broken-law : (m : List ℕ) (k : Kept) → broken wire (heldOf k m) ≡ cond (emptyOf k) (heldOf k m, none) (free, some (notice 14))
@@ -35,7 +36,7 @@ goes-law : (m : List ℕ) (k : Kept) (c : ℕ) → goes-on wire (heldOf k m) c �
 goes-law m Empty c = refl
 goes-law m (Of c₀ n) c = refl
 
-meets-law : (m : List ℕ) (d : Kind) (k : Kept) (c : ℕ)
+pub meets-law : (m : List ℕ) (d : Kind) (k : Kept) (c : ℕ)
     → meets wire d (heldOf k m) c ≡ cond (meetsOf d k c) (heldOf k m, none) (free, some (notice 14))
 meets-law m Fill k c = broken-law m k
 meets-law m Reserved k c = broken-law m k
@@ -53,8 +54,8 @@ module _ (cap : ℕ) (tp m : List ℕ) (full : length m ≡ cap) where
       → 3 * (length tp - j) + 1 < toil (length tp) w
       → came j (within wire h (h .size)) (ending wire h (h .size)) (fits wire cap (h .size) c d) ≡ pullOf cap w tp m
       → leb (h .size) (cap - n) ≡ b
-      → Turned cap w tp m (cond b (goes j (Body h (h .size)) (Of c n)) (stops j (Body h (h .size)) Empty (Notice 15))) m
-  unfolding Turned pullOf shown
+      → Carries cap w tp m (cond b (goes j (Body h (h .size)) (Of c n)) (stops j (Body h (h .size)) Empty (Notice 15))) m
+  unfolding Carries pullOf shown
   fits-by true w j h c n d x l r u e q =
       let y : length d ≡ n = ap length x ∙ length-take-le n m (omega arith) in
       let z : leb (length d + h .size) cap ≡ true = le-leb (length d + h .size) cap (omega (arith, leb-true (h .size) (cap - n) q)) in
@@ -77,23 +78,23 @@ module _ (cap : ℕ) (tp m : List ℕ) (full : length m ≡ cap) where
   fits-turned : (w : Walk) (j : ℕ) (h : Header) (c n : ℕ) (d : List ℕ) → d ≡ take n m → j ≤ length tp → n ≤ cap
       → 3 * (length tp - j) + 1 < toil (length tp) w
       → came j (within wire h (h .size)) (ending wire h (h .size)) (fits wire cap (h .size) c d) ≡ pullOf cap w tp m
-      → Turned cap w tp m (fitsOf j h c n cap) m
+      → Carries cap w tp m (fitsOf j h c n cap) m
   unfolding fitsOf
   fits-turned w j h c n d x l r u e = fits-by (leb (h .size) (cap - n)) w j h c n d x l r u e refl
 
   further-turned : (w : Walk) (j : ℕ) (h : Header) (k : Kept) → j ≤ length tp → Roomy cap k 0
       → 3 * (length tp - j) + 1 < toil (length tp) w
       → came j (within wire h (h .size)) (ending wire h (h .size)) (further wire cap (heldOf k m) (h .size)) ≡ pullOf cap w tp m
-      → Turned cap w tp m (furtherOf j h k cap) m
-  unfolding Turned pullOf
+      → Carries cap w tp m (furtherOf j h k cap) m
+  unfolding Carries pullOf
   further-turned w j h Empty l r u e = record { same = e; sound = record { at = l; phase = omega arith }; less = u }
   further-turned w j h (Of c n) l r u e = fits-turned w j h c n (take n m) refl l (omega arith) u e
 
   admit-by : (d : Kind) (w : Walk) (j : ℕ) (h : Header) (k : Kept) → j ≤ length tp → Roomy cap k 0
       → 3 * (length tp - j) + 1 < toil (length tp) w
       → came j (within wire h (h .size)) (ending wire h (h .size)) (admit wire cap d (heldOf k m) (h .content) (h .size)) ≡ pullOf cap w tp m
-      → Turned cap w tp m (admitOf d j h k cap) m
-  unfolding Turned pullOf shown
+      → Carries cap w tp m (admitOf d j h k cap) m
+  unfolding Carries pullOf shown
   admit-by Fill w j h k l r u e = record { same = e; sound = record { at = l; phase = omega arith }; less = u }
   admit-by Reserved w j h k l r u e = record { same = e; sound = record { at = l; phase = omega arith }; gained = omega arith }
   admit-by Complete w j h k l r u e = fits-turned w j h (h .content) 0 [] refl l (omega arith) u e
@@ -102,7 +103,7 @@ module _ (cap : ℕ) (tp m : List ℕ) (full : length m ≡ cap) where
   admit-by Last w j h k l r u e = further-turned w j h k l r u e
 
   pub admit-turned : (w : Walk) (h : Header) → Sound cap (length tp) w → w .phase ≡ Judged h
-      → Turned cap w tp m (admitOf (kindOf h) (w .at) h (w .kept) cap) m
+      → Carries cap w tp m (admitOf (kindOf h) (w .at) h (w .kept) cap) m
   unfolding pullOf
   admit-turned w h s q =
       let v : walkAt (w .at) (Judged h) (w .kept) ≡ w = ap (λ (p : Phase). walkAt (w .at) p (w .kept)) (sym q) in
@@ -113,8 +114,8 @@ module _ (cap : ℕ) (tp m : List ℕ) (full : length m ≡ cap) where
       → 3 * (length tp - j) + 1 < toil (length tp) w
       → came j (within wire h (h .size)) (entered h ∷ ending wire h (h .size)) T ≡ pullOf cap w tp m
       → T ≡ cond b (heldOf k m, none) (free, some (notice 14))
-      → Turned cap w tp m (cond b (admitOf (kindOf h) j h k cap) (stops j (Judged h) Empty (Notice 14))) m
-  unfolding Turned pullOf shown
+      → Carries cap w tp m (cond b (admitOf (kindOf h) j h k cap) (stops j (Judged h) Empty (Notice 14))) m
+  unfolding Carries pullOf shown
   opened-by true w j h k T l r u e q =
       admit-by (kindOf h) w j h k l r u (sym (ap (came j (within wire h (h .size)) (entered h ∷ ending wire h (h .size))) q) ∙ e)
   opened-by false w j h k T l r u e q =
@@ -123,8 +124,8 @@ module _ (cap : ℕ) (tp m : List ℕ) (full : length m ≡ cap) where
   pub whole-turned : (w : Walk) (j : ℕ) (o : Option Header) (k : Kept) → j ≤ length tp → Roomy cap k 0
       → 3 * (length tp - j) + 1 < toil (length tp) w
       → on-with cap (heldOf k m) m (whole wire o) j (drop j tp) ≡ pullOf cap w tp m
-      → Turned cap w tp m (wholeOf j o k cap) m
-  unfolding Turned pullOf shown openedOf
+      → Carries cap w tp m (wholeOf j o k cap) m
+  unfolding Carries pullOf shown openedOf
   whole-turned w j none k l r u e = record { same = e; sound = record { at = l; phase = omega arith }; gained = omega arith }
   whole-turned w j (some h) k l r u e =
       opened-by (meetsOf (kindOf h) k (h .content)) w j h k (meets wire (kindOf h) (heldOf k m) (h .content)) l r u e (meets-law m (kindOf h) k (h .content))
@@ -132,22 +133,22 @@ module _ (cap : ℕ) (tp m : List ℕ) (full : length m ≡ cap) where
   handed-turned : (w : Walk) (mₒ : List ℕ) (j : ℕ) (k : Kept) → j ≤ length tp → Roomy cap k 0
       → 3 * (length tp - j) < toil (length tp) w
       → came j idle [] (handed wire (heldOf k m)) ≡ pullOf cap w tp mₒ
-      → Turned cap w tp mₒ (handedOf j k) m
-  unfolding Turned pullOf shown
+      → Carries cap w tp mₒ (handedOf j k) m
+  unfolding Carries pullOf shown
   handed-turned w mₒ j Empty l r u e = record { same = e; sound = record { at = l; phase = omega arith }; less = omega arith }
   handed-turned w mₒ j (Of c n) l r u e = record { same = e; sound = record { at = l; phase = omega arith }; gained = r }
 
   kept-turned : (w : Walk) (mₒ : List ℕ) (j : ℕ) (k : Kept) → j ≤ length tp → Roomy cap k 0
       → 3 * (length tp - j) < toil (length tp) w
       → came j idle [] (heldOf k m, none) ≡ pullOf cap w tp mₒ
-      → Turned cap w tp mₒ (goes j (Head 0 0) k) m
-  unfolding Turned pullOf shown
+      → Carries cap w tp mₒ (goes j (Head 0 0) k) m
+  unfolding Carries pullOf shown
   kept-turned w mₒ j k l r u e = record { same = e; sound = record { at = l; phase = (omega arith, omega arith, r) }; less = omega arith }
 
   pub finish-by : (d : Kind) (w : Walk) (mₒ : List ℕ) (j : ℕ) (k : Kept) → j ≤ length tp → Roomy cap k 0
       → 3 * (length tp - j) < toil (length tp) w
       → came j idle [] (finish wire d (heldOf k m)) ≡ pullOf cap w tp mₒ
-      → Turned cap w tp mₒ (finishOf d j k) m
+      → Carries cap w tp mₒ (finishOf d j k) m
   finish-by Fill w mₒ j k l r u e = kept-turned w mₒ j k l r u e
   finish-by Reserved w mₒ j k l r u e = kept-turned w mₒ j k l r u e
   finish-by Complete w mₒ j k l r u e = handed-turned w mₒ j k l r u e

@@ -16,6 +16,7 @@ use Rattle.golay.specs.declared.End.{End}
 use Rattle.golay.specs.declared.End.the-variants.{Neither, Ones, Zeros}
 use Rattle.wire.specs.Reading.{headerIn, headerOf, readOf}
 use Rattle.wire.specs.declared.Header.{Header}
+use Rattle.receiver.specs.declared.Told.{Told}
 use Rattle.receiver.specs.declared.kind.Kind.{Kind}
 use Rattle.receiver.specs.declared.kind.Kind.the-variants.{Complete, Fill, First, Last, Middle, Reserved}
 use Rattle.receiver.specs.declared.low.Llep.{Llep}
@@ -24,7 +25,7 @@ use Rattle.receiver.specs.declared.low.Lows.{Lows}
 use Rattle.receiver.specs.declared.low.One.the-variants.{More, Stop}
 use Rattle.receiver.specs.Kind.{kindOf}
 use Rattle.receiver.specs.Low.{begins, ended, llep, sized}
-use Rattle.receiver.specs.Lows.{andThen, lows, lowsOf, oneOf, passedOf}
+use Rattle.receiver.specs.Lows.{andThen, lows, lowsOf, oneOf, passedBy, passedOf, toldOf}
 use Rattle.wire.specs.declared.Read.the-variants as R
 use Rattle.receiver.specs.declared.low.Lows.the-variants as L
 
@@ -99,6 +100,9 @@ llep-in bs h m e = begins-in (headerOf (take 6 bs)) bs h m (broken-else (ltb (le
 
 pub inside-at : (tp : List ℕ) (at : ℕ) (h : Header) (m : Bool) → llep (drop at tp) ≡ Whole h m → at + 7 + h .size ≤ length tp
 inside-at tp at h m e = omega (arith, llep-in (drop at tp) h m e, length-drop at tp)
+
+pub passed-by : (k : Kind) (h : Header) (m : Bool) (at : ℕ) (t u : Told) → t ≡ toldOf k h at → t ≡ u → passedBy u m (at + 7 + h .size) ≡ passedOf k h m at
+passed-by k h m at t u e q = ap (λ (t : Told). passedBy t m (at + 7 + h .size)) (sym q ∙ e)
 
 -- the loop: the walk from `at` says what the walk from `start` says
 

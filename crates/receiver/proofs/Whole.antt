@@ -19,7 +19,7 @@ use Rattle.receiver.specs.declared.kind.Kind.{Kind}
 use Rattle.receiver.specs.declared.kind.Kind.the-variants.{Complete, Fill, First, Last, Middle, Reserved}
 use Rattle.receiver.specs.declared.low.Llep.{Llep}
 use Rattle.receiver.specs.declared.low.Llep.the-variants.{Broken, Whole}
-use Rattle.receiver.specs.Call.{begun, begunly, freshly, gone, lowly, unchanged}
+use Rattle.receiver.specs.Call.{wordCall, payloadCall, firstCall, gone, lowCall, unchanged}
 use Rattle.receiver.specs.Forecast.{dropped}
 use Rattle.receiver.specs.Frame.{Frame}
 use Rattle.receiver.specs.Join.{Held, low, notice}
@@ -29,7 +29,7 @@ use Rattle.receiver.specs.Lows.{andThen, lows, lowsOf, oneOf, passedOf}
 use Rattle.receiver.specs.State.{frameOf, heldOf, todoOf}
 use Rattle.receiver.specs.Tp.{Listing, Setting, Stand, behind, dropping, heard, lowPartIf, refusing, worded}
 use Rattle.receiver.proofs.ByList.{by-list, due-list, turns-free}
-use Rattle.receiver.proofs.Rest.{afterwards, before, due-rest, dueRest, heardly, lowOn, lowRest, stageRest, standing, start-rest}
+use Rattle.receiver.proofs.Rest.{afterwards, before, due-rest, dueRest, heardFrom, lowOn, lowRest, stageRest, standing, start-rest}
 use Rattle.receiver.proofs.Walking.{inside-at}
 use Rattle.receiver.specs.declared.Find.the-variants as F
 use Rattle.receiver.specs.declared.Stage.the-variants as S
@@ -50,9 +50,9 @@ module _ (r : Receiver) (o : ℕ) (tp m : List ℕ) where
   stage-next false k i a b c = refl
 
   low-kind : (d : Kind) (h : Header) (more : Bool) (k at : ℕ) → 4 ≤ at → at + 7 + h .size ≤ length tp → length tp - (at + 7 + h .size) < k
-      → ((i : ℕ) → 4 ≤ i → i ≤ length tp → length tp - i < k → lowRest (length m) k At With o i tp ≡ afterwards (length m) (lowly (lows k tp i) r o tp m) tp)
+      → ((i : ℕ) → 4 ≤ i → i ≤ length tp → length tp - i < k → lowRest (length m) k At With o i tp ≡ afterwards (length m) (lowCall (lows k tp i) r o tp m) tp)
       → before (given d h (drop at tp)) (cond more (lowRest (length m) k At With o (at + 7 + h .size) tp) (dueRest (length m) At With o (at + 7 + h .size) tp))
-      ≡ afterwards (length m) (lowly (andThen (passedOf d h more at) (λ i. lows k tp i)) r o tp m) tp
+      ≡ afterwards (length m) (lowCall (andThen (passedOf d h more at) (λ i. lows k tp i)) r o tp m) tp
   low-kind Fill h true k at a b c ih = ih (at + 7 + h .size) (omega arith) b c
   low-kind Fill h false k at a b c ih = due-rest (length m) r o (at + 7 + h .size) tp m refl
   low-kind Complete h more k at a b c ih =
@@ -64,19 +64,19 @@ module _ (r : Receiver) (o : ℕ) (tp m : List ℕ) where
   low-kind Last h more k at a b c ih = ap (before (notice 16 ∷ [])) (stage-next more k (at + 7 + h .size) (omega arith) b c)
 
   low-by : (l : Llep) (k at : ℕ) → llep (drop at tp) ≡ l → 4 ≤ at → length tp - at < suc k
-      → ((i : ℕ) → 4 ≤ i → i ≤ length tp → length tp - i < k → lowRest (length m) k At With o i tp ≡ afterwards (length m) (lowly (lows k tp i) r o tp m) tp)
-      → lowOn (length m) l At With o at tp (λ i. lowRest (length m) k At With o i tp) ≡ afterwards (length m) (lowly (andThen (oneOf l at) (λ i. lows k tp i)) r o tp m) tp
+      → ((i : ℕ) → 4 ≤ i → i ≤ length tp → length tp - i < k → lowRest (length m) k At With o i tp ≡ afterwards (length m) (lowCall (lows k tp i) r o tp m) tp)
+      → lowOn (length m) l At With o at tp (λ i. lowRest (length m) k At With o i tp) ≡ afterwards (length m) (lowCall (andThen (oneOf l at) (λ i. lows k tp i)) r o tp m) tp
   low-by Broken k at e a c ih = start-rest (length m) r (dropped wire 11 (drop at tp)) at tp m refl
   low-by (Whole h more) k at e a c ih = let q = inside-at tp at h more e in low-kind (kindOf h) h more k at a q (omega arith) ih
 
-  low-calls : (k at : ℕ) → 4 ≤ at → at ≤ length tp → length tp - at < k → lowRest (length m) k At With o at tp ≡ afterwards (length m) (lowly (lows k tp at) r o tp m) tp
+  low-calls : (k at : ℕ) → 4 ≤ at → at ≤ length tp → length tp - at < k → lowRest (length m) k At With o at tp ≡ afterwards (length m) (lowCall (lows k tp at) r o tp m) tp
   unfolding lowRest lows
   low-calls zero at a b c = absurd (omega arith)
   low-calls (suc k) at a b c = low-by (llep (drop at tp)) k at refl a c (λ i x y z. low-calls k i x y z)
 
-  pub lowly-rest : (at : ℕ) → 4 ≤ at → at ≤ length tp → lowRest (length m) (suc (length tp)) At With o at tp ≡ afterwards (length m) (lowly (lowsOf tp at) r o tp m) tp
+  pub lowCall-rest : (at : ℕ) → 4 ≤ at → at ≤ length tp → lowRest (length m) (suc (length tp)) At With o at tp ≡ afterwards (length m) (lowCall (lowsOf tp at) r o tp m) tp
   unfolding lowsOf
-  lowly-rest at a b = low-calls (suc (length tp)) at a b (omega arith)
+  lowCall-rest at a b = low-calls (suc (length tp)) at a b (omega arith)
 
 -- where a receiver stands, and its settings
 abbrev pub standOf : Receiver → List ℕ → Stand
@@ -87,19 +87,19 @@ settingOf r = record { size = r .size; stream = r .stream; room = r .limit }
 
 module _ (r : Receiver) (tp m : List ℕ) (fresh : r .stage ≡ S.Fresh) (l : 4 ≤ length tp) where
   word-rest : (o : Option ℕ)
-      → heardly (length m) (heldOf (r .walk .kept) m) (worded o (frameOf (r .walk .phase)) (drop 4 tp)) ≡ afterwards (length m) (begun o r tp m) tp
+      → heardFrom (length m) (heldOf (r .walk .kept) m) (worded o (frameOf (r .walk .phase)) (drop 4 tp)) ≡ afterwards (length m) (wordCall o r tp m) tp
   word-rest none = refl
   word-rest (some w) = by (leb 2048 w)
     where
       by : (b : Bool)
-          → heardly (length m) (heldOf (r .walk .kept) m) (behind (lowPartIf b (drop 4 tp) .finds) (lowPartIf b (drop 4 tp) .behind) (frameOf (r .walk .phase)) (w % 2048) (drop 4 tp))
-          ≡ afterwards (length m) (begunly b r (w % 2048) tp m) tp
-      by true = by-list (length m) (frameOf (r .walk .phase)) (heldOf (r .walk .kept) m) (w % 2048) tp l ∙ lowly-rest r (w % 2048) tp m 4 (omega arith) l
+          → heardFrom (length m) (heldOf (r .walk .kept) m) (behind (lowPartIf b (drop 4 tp) .finds) (lowPartIf b (drop 4 tp) .behind) (frameOf (r .walk .phase)) (w % 2048) (drop 4 tp))
+          ≡ afterwards (length m) (payloadCall b r (w % 2048) tp m) tp
+      by true = by-list (length m) (frameOf (r .walk .phase)) (heldOf (r .walk .kept) m) (w % 2048) tp l ∙ lowCall-rest r (w % 2048) tp m 4 (omega arith) l
       by false = due-list (length m) (frameOf (r .walk .phase)) (heldOf (r .walk .kept) m) (w % 2048) tp 4 (omega arith) l ∙ due-rest (length m) r (w % 2048) 4 tp m refl
 
   pub fresh-rest : length tp ≡ r .size
-      → heardly (length m) (heldOf (r .walk .kept) m) (heard (settingOf r) (frameOf (r .walk .phase)) tp) ≡ afterwards (length m) (freshly r tp m) tp
-  unfolding heard freshly
+      → heardFrom (length m) (heldOf (r .walk .kept) m) (heard (settingOf r) (frameOf (r .walk .phase)) tp) ≡ afterwards (length m) (firstCall r tp m) tp
+  unfolding heard firstCall
   fresh-rest e = rw (eq-eqb (length tp) (r .size) e) (by (eqb (streamOf (getD tp 0 0)) (r .stream)) (eqb (versionOf (getD tp 0 0)) 0))
     where
       W : Option ℕ
@@ -109,8 +109,8 @@ module _ (r : Receiver) (tp m : List ℕ) (fresh : r .stage ≡ S.Fresh) (l : 4 
       here = frameOf (r .walk .phase)
 
       by : (a b : Bool)
-          → heardly (length m) (heldOf (r .walk .kept) m) (cond a (cond b (worded W here (drop 4 tp)) (dropping 7)) (refusing 8 here))
-          ≡ afterwards (length m) (cond a (cond b (begun W r tp m) (gone r 7 m)) (unchanged r (F.Notice 8) 8 m)) tp
+          → heardFrom (length m) (heldOf (r .walk .kept) m) (cond a (cond b (worded W here (drop 4 tp)) (dropping 7)) (refusing 8 here))
+          ≡ afterwards (length m) (cond a (cond b (wordCall W r tp m) (gone r 7 m)) (unchanged r (F.Notice 8) 8 m)) tp
       by true true = word-rest W
       by true false = refl
       by false b =

@@ -1,6 +1,6 @@
 -- What the public functions promise: an opening, one call, a told gap, and the stretch that a find names.
 -- Assumes nothing.
-use Prim.Native.Nat.{ℕ, _+_, _-_, _%_}
+use Prim.Native.Nat.{ℕ, _-_, _%_, _≤_}
 use mathlib.Core.Path.{_≡_}
 use mathlib.Core.Bool.{Bool, true, false, cond}
 use mathlib.Core.Option.{Option, none, some}
@@ -58,6 +58,14 @@ saidOf f tp m = record { find = f; number = findNumber f; bytes = dataOf f tp m 
 abbrev pub says : Find → Option ℕ → Said
 says f n = record { find = f; number = n; bytes = [] }
 
+-- "the same TP and room are lent until one says none, which ends the TP"; after 1 and 6 to 9 no none follows
+abbrev pub lasts : Find → Bool
+lasts F.Nothing = false
+lasts F.Refused = false
+lasts (F.Notice n) = ltb 9 n
+lasts (F.Low c start n) = true
+lasts (F.Ordinary c n) = true
+
 -- what a call says, where it leaves the receiver, and the room's bytes
 pub record Gave : Type 0 where
   pub said : Said
@@ -100,7 +108,6 @@ unchanged r f n m = moved r (r .stage) (r .walk .at) (says f (some n)) m
 abbrev pub gone : Receiver → ℕ → List ℕ → Gave
 gone r n m = leave r Fresh 0 lost [] free 0 (says (F.Notice n) (some n)) m
 
--- ordinary bytes: none ends the TP
 abbrev pub holds : Held wire → ℕ
 holds free = 0
 holds (held c d) = length d
@@ -108,61 +115,65 @@ holds (held c d) = length d
 abbrev pub pulled : Receiver → Pulled wire → Stage → ℕ → Said → Gave
 pulled r p stage at a = leave r stage at (p .frame) (p .todo) (p .held) (holds (p .held)) a (p .room)
 
--- (reassembly gives no low-latency packet)
-abbrev pub plain : Option (Finding wire) → Receiver → Pulled wire → Gave
-plain none r p = pulled r p Fresh 0 (says F.Nothing none)
-plain (some (notice n)) r p = pulled r p Plain (p .at) (says (F.Notice n) (some n))
-plain (some (low c d)) r p = pulled r p Plain (p .at) (record { find = F.Low c 0 (length d); number = none; bytes = d })
-plain (some (ordinary c d)) r p = pulled r p Plain (p .at) (record { find = F.Ordinary c (length d); number = none; bytes = d })
+-- AMONG ORDINARY BYTES, read on up to a find; none ends the TP (reassembly gives no low-latency packet)
+abbrev pub ordinaryBy : Option (Finding wire) → Receiver → Pulled wire → Gave
+ordinaryBy none r p = pulled r p Fresh 0 (says F.Nothing none)
+ordinaryBy (some (notice n)) r p = pulled r p Plain (p .at) (says (F.Notice n) (some n))
+ordinaryBy (some (low c d)) r p = pulled r p Plain (p .at) (record { find = F.Low c 0 (length d); number = none; bytes = d })
+ordinaryBy (some (ordinary c d)) r p = pulled r p Plain (p .at) (record { find = F.Ordinary c (length d); number = none; bytes = d })
 
-abbrev pub plainly : Receiver → Pulled wire → Gave
-plainly r p = plain (p .find) r p
+abbrev pub ordinaryCall : Receiver → Pulled wire → Gave
+ordinaryCall r p = ordinaryBy (p .find) r p
 
 -- the same walk at another place
 abbrev pub walkTo : Receiver → ℕ → Walk
 walkTo r at = record { at = at; phase = r .walk .phase; kept = r .walk .kept }
 
-abbrev pub startly : Receiver → ℕ → Start wire → List ℕ → List ℕ → Gave
-startly r at t tp m = plainly r (from (length m) t (walkTo r at) tp m)
+-- setting about them from this place on
+abbrev pub startCall : Receiver → ℕ → Start wire → List ℕ → List ℕ → Gave
+startCall r at t tp m = ordinaryCall r (from (length m) t (walkTo r at) tp m)
 
--- behind the low-latency part, which ends at this place, with this offset; the payload begins at place 4
-unfoldable pub dueOf : Receiver → ℕ → ℕ → List ℕ → List ℕ → Gave
+-- BEHIND THE LOW-LATENCY PART, which ends at this place, with this offset; the payload begins at place 4
+unfoldable pub dueCall : Receiver → ℕ → ℕ → List ℕ → List ℕ → Gave
 unfolding outset
-dueOf r offset at tp m = startly r at (outset wire (frameOf (r .walk .phase)) offset (at - 4) (drop at tp)) tp m
+dueCall r offset at tp m = startCall r at (outset wire (frameOf (r .walk .phase)) offset (at - 4) (drop at tp)) tp m
 
--- in the low-latency part. 11: "that LLEP not handed out; out of step, rest of TP dropped"
-abbrev pub lowly : Lows → Receiver → ℕ → List ℕ → List ℕ → Gave
-lowly (L.Broken at) r offset tp m = startly r at (dropped wire 11 (drop at tp)) tp m
-lowly (L.End at) r offset tp m = dueOf r offset at tp m
-lowly (L.Gives f more at) r offset tp m = moved r (cond more (Low offset) (Due offset)) at (saidOf f tp m) m
+-- IN THE LOW-LATENCY PART. 11: "that LLEP not handed out; out of step, rest of TP dropped"
+abbrev pub lowCall : Lows → Receiver → ℕ → List ℕ → List ℕ → Gave
+lowCall (L.Broken at) r offset tp m = startCall r at (dropped wire 11 (drop at tp)) tp m
+lowCall (L.End at) r offset tp m = dueCall r offset at tp m
+lowCall (L.Gives f more at) r offset tp m = moved r (cond more (Low offset) (Due offset)) at (saidOf f tp m) m
 
-abbrev pub begunly : Bool → Receiver → ℕ → List ℕ → List ℕ → Gave
-begunly true r offset tp m = lowly (lowsOf tp 4) r offset tp m
-begunly false r offset tp m = dueOf r offset 4 tp m
+-- AT THE PAYLOAD'S START, with a low-latency part or without
+abbrev pub payloadCall : Bool → Receiver → ℕ → List ℕ → List ℕ → Gave
+payloadCall true r offset tp m = lowCall (lowsOf tp 4) r offset tp m
+payloadCall false r offset tp m = dueCall r offset 4 tp m
 
-abbrev pub begun : Option ℕ → Receiver → List ℕ → List ℕ → Gave
-begun none r tp m = gone r 9 m
-begun (some w) r tp m = begunly (leb 2048 w) r (w % 2048) tp m
+-- by the TP's Golay word: "bit 11: low-latency part present; bits 10 to 0: offset"
+abbrev pub wordCall : Option ℕ → Receiver → List ℕ → List ℕ → Gave
+wordCall none r tp m = gone r 9 m
+wordCall (some w) r tp m = payloadCall (leb 2048 w) r (w % 2048) tp m
 
-unfoldable pub freshly : Receiver → List ℕ → List ℕ → Gave
-unfolding dueOf lowsOf
-freshly r tp m =
+-- A TP'S FIRST CALL: "the checks of .. 8, 7, 9 in this order"
+unfoldable pub firstCall : Receiver → List ℕ → List ℕ → Gave
+unfolding dueCall lowsOf
+firstCall r tp m =
     cond (eqb (streamOf (getD tp 0 0)) (r .stream))
-    (cond (eqb (versionOf (getD tp 0 0)) 0) (begun (tpNumberIn (number 0 (take 3 (drop 1 tp)))) r tp m) (gone r 7 m))
+    (cond (eqb (versionOf (getD tp 0 0)) 0) (wordCall (tpNumberIn (number 0 (take 3 (drop 1 tp)))) r tp m) (gone r 7 m))
     (unchanged r (F.Notice 8) 8 m)
 
-abbrev pub staged : Stage → Receiver → List ℕ → List ℕ → Gave
-staged Fresh r tp m = freshly r tp m
-staged (Low offset) r tp m = lowly (lowsOf tp (r .walk .at)) r offset tp m
-staged (Due offset) r tp m = dueOf r offset (r .walk .at) tp m
-staged Plain r tp m = plainly r (pullOf (length m) (r .walk) tp m)
+abbrev pub stageCall : Stage → Receiver → List ℕ → List ℕ → Gave
+stageCall Fresh r tp m = firstCall r tp m
+stageCall (Low offset) r tp m = lowCall (lowsOf tp (r .walk .at)) r offset tp m
+stageCall (Due offset) r tp m = dueCall r offset (r .walk .at) tp m
+stageCall Plain r tp m = ordinaryCall r (pullOf (length m) (r .walk) tp m)
 
 -- THE CALL. "Later calls of a TP check only 1 and 6."
 unfoldable pub callOf : Receiver → List ℕ → List ℕ → Gave
-unfolding freshly
+unfolding firstCall
 callOf r tp m =
     cond (eqb (length m) (r .limit))
-    (cond (eqb (length tp) (r .size)) (staged (r .stage) r tp m) (unchanged r (F.Notice 6) 6 m))
+    (cond (eqb (length tp) (r .size)) (stageCall (r .stage) r tp m) (unchanged r (F.Notice 6) 6 m))
     (unchanged r F.Refused 1 m)
 
 -- what a step shows of itself, with the room's bytes behind it
@@ -183,24 +194,37 @@ freshOf size stream limit =
 abbrev pub gapOf : Receiver → Receiver
 gapOf r = freshOf (r .size) (r .stream) (r .limit)
 
--- "Opened with TP length and stream in the sender's limits and a room for assembly, at most 131,072 bytes."
-abbrev pub openingOf : ℕ → ℕ → ℕ → Opened
-openingOf size stream limit =
-    cond (ltb size 16) O.Refused
-    (cond (ltb 2051 size) O.Refused
-    (cond (ltb 15 stream) O.Refused
-    (cond (ltb 131072 limit) O.Refused (O.Ready (freshOf size stream limit)))))
-
--- document 01's number for each answer
+-- document 01's number for an opening's answer
 abbrev pub openNumber : Opened → Option ℕ
 openNumber O.Refused = some 1
 openNumber (O.Ready r) = none
 
+-- an opening's answer and its number
+pub record Answered : Type 0 where
+  pub opened : Opened
+  pub number : Option ℕ
+
+abbrev pub answeredOf : Opened → Answered
+answeredOf q = record { opened = q; number = openNumber q }
+
+-- 1: "a setting or buffer outside its limits at opening: nothing opened"
+abbrev pub outside : Answered
+outside = record { opened = O.Refused; number = some 1 }
+
+-- "Opened with TP length and stream in the sender's limits and a room for assembly, at most 131,072 bytes."
+abbrev pub openingOf : ℕ → ℕ → ℕ → Answered
+openingOf size stream limit =
+    cond (ltb size 16) outside
+    (cond (ltb 2051 size) outside
+    (cond (ltb 15 stream) outside
+    (cond (ltb 131072 limit) outside (record { opened = O.Ready (freshOf size stream limit); number = none }))))
+
+-- what is opened can be called
 abbrev pub AbleIf : Opened → Type 0
-AbleIf O.Refused = openNumber O.Refused ≡ some 1
+AbleIf O.Refused = 0 ≤ 0
 AbleIf (O.Ready r) = Able r
 
 -- THE PROMISE of an opening
 pub record OpenedAs (size stream limit : ℕ) (q : Opened) : Type 0 where
-  pub same : q ≡ openingOf size stream limit
+  pub same : answeredOf q ≡ openingOf size stream limit
   pub able : AbleIf q

@@ -23,10 +23,11 @@ module _ (C : Code) where
     head : ℕ → List (C .B) → Frame
     body : C .H → ℕ → Frame
 
-  -- what reading brings to light: a loss of step (by a notice of this number, 0 for a told gap); a header made whole;
-  -- the way into its EP; a data byte; an EP's end
+  -- what reading brings to light: a loss of step by a notice of this number; a told gap; a header made whole; the way
+  -- into its EP; a data byte; an EP's end
   pub data Event : Type 0 where
     lose : ℕ → Event
+    gap : Event
     opened : C .H → Event
     entered : C .H → Event
     fed : C .B → Event

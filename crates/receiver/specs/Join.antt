@@ -1,6 +1,6 @@
 -- Reassembly: what the EPs read amount to (document 01, "Receiver", and 14 to 16). Each event gives at most one find.
 -- Assumes nothing.
-use Prim.Native.Nat.{ℕ, zero, suc, _+_}
+use Prim.Native.Nat.{ℕ, _+_}
 use mathlib.Core.Bool.{cond}
 use mathlib.Core.Option.{Option, none, some}
 use mathlib.Core.List.{List, [], _∷_, _++_}
@@ -8,7 +8,7 @@ use lib.Dec.{leb, eqb}
 use lib.ListN.{length, set}
 use Rattle.receiver.specs.declared.kind.Kind.{Kind}
 use Rattle.receiver.specs.declared.kind.Kind.the-variants.{Fill, Reserved, Complete, First, Middle, Last}
-use Rattle.receiver.specs.Frame.{Code, Event, lose, opened, entered, fed, closed}
+use Rattle.receiver.specs.Frame.{Code, Event, lose, gap, opened, entered, fed, closed}
 
 module _ (C : Code) where
   -- a notice of this number; a packet of this content
@@ -61,11 +61,6 @@ module _ (C : Code) where
   finish Middle s = (s, none)
   finish Last s = handed s
 
-  -- a told gap is no notice
-  abbrev pub told : ℕ → Option Finding
-  told zero = none
-  told (suc n) = some (notice (suc n))
-
   abbrev pub listed : Option Finding → List Finding
   listed none = []
   listed (some f) = f ∷ []
@@ -77,6 +72,7 @@ module _ (C : Code) where
 
   abbrev pub stored : Held → Event C → List (C .B) → List (C .B)
   stored s (lose n) m = m
+  stored s gap m = m
   stored s (opened h) m = m
   stored s (entered h) m = m
   stored s (fed b) m = put s b m
@@ -101,9 +97,11 @@ module _ (C : Code) (room : ℕ) where
   admit Middle s c n = further s n
   admit Last s c n = further s n
 
-  -- what an event leaves, and what it gives. Out of step "the unfinished EP and the held fragments are dropped"
+  -- what an event leaves, and what it gives. Out of step "the unfinished EP and the held fragments are dropped"; a told gap
+  -- is no notice
   abbrev pub take-in : Held C → Event C → Took C
-  take-in s (lose n) = (free, told C n)
+  take-in s (lose n) = (free, some (notice n))
+  take-in s gap = (free, none)
   take-in s (opened h) = meets C (C .kind h) s (C .content h)
   take-in s (entered h) = admit (C .kind h) s (C .content h) (C .size h)
   take-in s (fed b) = (grown C s b, none)

@@ -5,12 +5,17 @@ pub mod Forecast
 pub mod Join
 pub mod Low
 pub mod Tp
--- one call, by value: what the public contracts cite
+-- one call, by value: what `open`, `next`, `gap` and `found` promise
 pub mod Pull
 pub mod State
 pub mod Lows
 pub mod Call
--- what the private functions do
+-- one piece further, by value: what `turn` promises
 pub mod Turns
 pub mod Outset
-pub mod Steps
+pub mod Pieces
+pub mod Turn
+-- what the private functions promise one another, and nobody has to believe
+pub mod InWalk
+pub mod InOutset
+pub mod InStages

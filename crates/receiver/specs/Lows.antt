@@ -6,6 +6,8 @@ use lib.ListN.{length, drop}
 use Rattle.wire.specs.declared.Header.{Header}
 use Rattle.receiver.specs.declared.Find.{Find}
 use Rattle.receiver.specs.declared.Find.the-variants as F
+use Rattle.receiver.specs.declared.Told.{Told}
+use Rattle.receiver.specs.declared.Told.the-variants as T
 use Rattle.receiver.specs.declared.kind.Kind.{Kind}
 use Rattle.receiver.specs.declared.kind.Kind.the-variants as K
 use Rattle.receiver.specs.declared.low.Llep.{Llep}
@@ -23,14 +25,21 @@ gives f more end = Stop (Gives f more end)
 abbrev pub goneBy : Bool → ℕ → One
 goneBy more end = cond more (More end) (Stop (End end))
 
--- an LLEP at this place, and its find
+-- what an LLEP at this place tells
+abbrev pub toldOf : Kind → Header → ℕ → Told
+toldOf K.Fill h at = T.More
+toldOf K.Complete h at = T.Gives (F.Low (h .content) (at + 6) (h .size))
+toldOf K.Reserved h at = T.Gives (F.Notice 16)
+toldOf K.First h at = T.Gives (F.Notice 16)
+toldOf K.Middle h at = T.Gives (F.Notice 16)
+toldOf K.Last h at = T.Gives (F.Notice 16)
+
+abbrev pub passedBy : Told → Bool → ℕ → One
+passedBy T.More more end = goneBy more end
+passedBy (T.Gives f) more end = gives f more end
+
 abbrev pub passedOf : Kind → Header → Bool → ℕ → One
-passedOf K.Fill h more at = goneBy more (at + 7 + h .size)
-passedOf K.Complete h more at = gives (F.Low (h .content) (at + 6) (h .size)) more (at + 7 + h .size)
-passedOf K.Reserved h more at = gives (F.Notice 16) more (at + 7 + h .size)
-passedOf K.First h more at = gives (F.Notice 16) more (at + 7 + h .size)
-passedOf K.Middle h more at = gives (F.Notice 16) more (at + 7 + h .size)
-passedOf K.Last h more at = gives (F.Notice 16) more (at + 7 + h .size)
+passedOf k h more at = passedBy (toldOf k h at) more (at + 7 + h .size)
 
 abbrev pub oneOf : Llep → ℕ → One
 oneOf L.Broken at = Stop (Broken at)

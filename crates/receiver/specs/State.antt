@@ -57,6 +57,10 @@ abbrev pub Roomy : ℕ → Kept → ℕ → Type 0
 Roomy cap Empty n = 0 ≤ 0
 Roomy cap (Of c k) n = k + n ≤ cap
 
+-- and its length is a number of the machine
+abbrev pub Counts : Kept → ℕ → Type 0
+Counts k n = Roomy 18446744073709551615 k n
+
 abbrev pub Fine : ℕ → Phase → Kept → Type 0
 Fine cap Lost k = Roomy cap k 0
 Fine cap (Head n w) k = (n ≤ 5) × (w < 256 ^ n) × Roomy cap k 0

@@ -8,7 +8,7 @@ use lib.Dec.{eqb, leb}
 use lib.ListN.{length, take, drop, getD}
 use Rattle.digits.specs.Digits.{number}
 use Rattle.wire.specs.Reading.{tpNumberIn, streamOf, versionOf}
-use Rattle.receiver.specs.Frame.{Frame, lost, Event, lose, after, events}
+use Rattle.receiver.specs.Frame.{Frame, lost, Event, lose, gap, after, events}
 use Rattle.receiver.specs.Forecast.{Start, outset}
 use Rattle.receiver.specs.Join.{Finding, notice, Held, finds, holding}
 use Rattle.receiver.specs.Low.{wire, Part, lowPart}
@@ -29,9 +29,13 @@ pub record Heard : Type 0 where
 abbrev pub refusing : ℕ → Frame wire → Heard
 refusing n f = record { lows = notice n ∷ []; told = []; frame = f }
 
--- 7, 9: "out of step, TP dropped"; and a told gap
+-- 7, 9: "out of step, TP dropped"
 abbrev pub dropping : ℕ → Heard
 dropping n = record { lows = []; told = lose n ∷ []; frame = lost }
+
+-- "Being told of a gap puts it out of step"
+abbrev pub gapHeard : Heard
+gapHeard = record { lows = []; told = gap ∷ []; frame = lost }
 
 abbrev pub readOn : List (Finding wire) → Start wire → List ℕ → Heard
 readOn fs t bs = record {
@@ -71,7 +75,7 @@ pub data Input : Type 0 where
 
 abbrev pub inputOf : Setting → Frame wire → Input → Heard
 inputOf s f (tpIn bs) = heard s f bs
-inputOf s f gapTold = dropping 0
+inputOf s f gapTold = gapHeard
 
 -- where the receiver stands between two TPs
 pub record Stand : Type 0 where

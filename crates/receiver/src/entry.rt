@@ -9,8 +9,9 @@ ghost use Rattle.receiver.specs.declared.entry.Begun.the-variants as B;
 ghost use Rattle.receiver.specs.declared.walk.Kept.the-variants.{Empty};
 ghost use Rattle.receiver.specs.declared.walk.Phase.the-variants.{Lost};
 ghost use Rattle.receiver.specs.State.{Able};
-ghost use Rattle.receiver.specs.Call.{freshly, staged};
-ghost use Rattle.receiver.specs.Steps.{Lent, Begins, stepOf};
+ghost use Rattle.receiver.specs.Call.{firstCall, stageCall};
+ghost use Rattle.receiver.specs.Pieces.{topOf, stepOf};
+ghost use Rattle.receiver.specs.InStages.{Lent, Begins};
 use crate::Find;
 use crate::Receiver;
 use crate::Stage;
@@ -25,6 +26,13 @@ pub enum Begun {
     Gives(Step),
     Part { low: bool, offset: usize, at: usize },
     Plain,
+}
+
+// A TP's header: of another stream; not to be read, by this notice; or its flag and its offset.
+pub enum Top {
+    Elsewhere,
+    Dropped(u8),
+    Says { low: bool, offset: usize },
 }
 
 fn tp_word(tp: &[u8]) -> u32
@@ -42,30 +50,42 @@ fn drop_all(r: Receiver, number: u8) -> Begun
     Begun::Gives(stages::step_to(r, Stage::Fresh, 0, Phase::Lost, Kept::Empty, find))
 }
 
-// A TP's first call: 8, 7, 9.
-fn first(r: Receiver, tp: &[u8]) -> Begun
-    requires { ⌜ Able r × Lent r 4 (now tp) ⌝ }
-    ensures { λ q. ⌜ Begins (freshly r (now (tp .entry))) r (now (tp .entry)) q ⌝ }
+// What a TP's header says: 8, 7, 9, or what follows it.
+pub fn read_top(stream: u8, tp: &[u8]) -> Top
+    requires { ⌜ 4 ≤ length (now tp) ⌝ }
+    ensures { λ q. ⌜ q ≡ topOf stream (now (tp .entry)) ⌝ }
 {
     let b = tp[0];
-    if b / 16 != r.stream {
-        return Begun::Gives(Step {
-            receiver: r,
-            find: Find::Notice(8),
-        });
+    if b / 16 != stream {
+        return Top::Elsewhere;
     }
     if b % 4 != 0 {
-        return drop_all(r, 7);
+        return Top::Dropped(7);
     }
     match wire::read_tp_word(tp_word(tp)) {
-        TpWord::Beyond => drop_all(r, 9),
-        TpWord::Says { low, offset } => Begun::Part { low, offset, at: 4 },
+        TpWord::Beyond => Top::Dropped(9),
+        TpWord::Says { low, offset } => Top::Says { low, offset },
+    }
+}
+
+// A TP's first call.
+fn first(r: Receiver, tp: &[u8]) -> Begun
+    requires { ⌜ Able r × Lent r 4 (now tp) ⌝ }
+    ensures { λ q. ⌜ Begins (firstCall r (now (tp .entry))) r (now (tp .entry)) q ⌝ }
+{
+    match read_top(r.stream, tp) {
+        Top::Elsewhere => Begun::Gives(Step {
+            receiver: r,
+            find: Find::Notice(8),
+        }),
+        Top::Dropped(number) => drop_all(r, number),
+        Top::Says { low, offset } => Begun::Part { low, offset, at: 4 },
     }
 }
 
 pub fn begin(r: Receiver, tp: &[u8]) -> Begun
     requires { ⌜ Able r × (length (now tp) ≡ r .size) ⌝ }
-    ensures { λ q. ⌜ Begins (staged (r .stage) r (now (tp .entry))) r (now (tp .entry)) q ⌝ }
+    ensures { λ q. ⌜ Begins (stageCall (r .stage) r (now (tp .entry))) r (now (tp .entry)) q ⌝ }
 {
     let stage = r.stage;
     let w = r.walk;

@@ -3,13 +3,15 @@ ghost use mathlib.Core.Path.{_≡_};
 ghost use Prim.Native.Nat.{_≤_};
 ghost use lib.ListN.{length, take, drop};
 ghost use Rattle.receiver.specs.State.{Able};
-ghost use Rattle.receiver.specs.Call.{callOf, Gives, freshOf, gapOf, OpenedAs, dataOf};
+ghost use Rattle.receiver.specs.Call.{callOf, Gives, freshOf, gapOf, OpenedAs, dataOf, lasts};
+ghost use Rattle.receiver.specs.Turn.{goesOn, TurnedAs};
 
 mod entry;
 mod judge;
 mod kind;
 mod low;
 mod outset;
+mod pieces;
 mod stages;
 mod walk;
 
@@ -17,6 +19,7 @@ use stages::Course;
 use walk::Kept;
 use walk::Phase;
 use walk::Walk;
+use wire::Header;
 
 // One call's answer. Document 01's number is 1 for Refused, and a notice's own.
 pub enum Find {
@@ -48,6 +51,38 @@ pub struct Receiver {
     limit: usize,
     stage: Stage,
     walk: Walk,
+}
+
+// What the bytes of a piece are: passed over or dropped (also none at all); an LLEP with its end byte; a header, or an LLEP,
+// beyond reading; a header's, that the TP's end cuts; a header's, now whole; data of an EP that is passed over; data that
+// are kept, from this place of the room on.
+pub enum Role {
+    Passed,
+    Llep(Header),
+    Broken,
+    Cut,
+    Whole(Header),
+    Skipped,
+    Kept(usize),
+}
+
+// A stretch of the TP's payload.
+pub struct Piece {
+    pub from: usize,
+    pub to: usize,
+    pub role: Role,
+}
+
+// Whether a piece ends a call, and its find.
+pub enum Told {
+    More,
+    Gives(Find),
+}
+
+pub struct Turned {
+    pub receiver: Receiver,
+    pub piece: Piece,
+    pub told: Told,
 }
 
 pub enum Opened {
@@ -116,6 +151,50 @@ pub fn next(r: Receiver, tp: &[u8], room: &mut [u8]) -> Step
     match stages::take_up(r, tp) {
         Course::Gives(step) => step,
         Course::Reads(w) => stages::tell(r, walk::onward(w, tp, room)),
+    }
+}
+
+// Whether the same TP has more to give behind a find.
+pub fn lasts(find: Find) -> bool
+    ensures { λ r. ⌜ r ≡ lasts find ⌝ }
+{
+    match find {
+        Find::Nothing => false,
+        Find::Refused => false,
+        Find::Notice(n) => 9 < n,
+        Find::Low {
+            content: _,
+            start: _,
+            len: _,
+        } => true,
+        Find::Ordinary { content: _, len: _ } => true,
+    }
+}
+
+// One piece further, with no room: the calls of `next` piece by piece.
+pub fn turn(r: Receiver, tp: &[u8]) -> Turned
+    requires { ⌜ Able r ⌝ }
+    ensures { λ q. ⌜ TurnedAs r (now (tp .entry)) q ⌝ }
+{
+    if r.size != tp.len() {
+        return pieces::same(r, 6);
+    }
+    let stage = r.stage;
+    match stage {
+        Stage::Fresh => pieces::first(r, tp),
+        Stage::Low(offset) => pieces::llep(r, offset, tp),
+        Stage::Due(offset) => pieces::due(r, offset, tp),
+        Stage::Plain => pieces::plain(r, tp),
+    }
+}
+
+// Whether the same TP has more to give behind a turn.
+pub fn goes_on(told: Told) -> bool
+    ensures { λ r. ⌜ r ≡ goesOn told ⌝ }
+{
+    match told {
+        Told::More => true,
+        Told::Gives(find) => lasts(find),
     }
 }
 

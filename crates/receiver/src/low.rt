@@ -5,8 +5,9 @@ ghost use lib.ListN.{length, drop};
 ghost use Rattle.golay.specs.Answers.{endOf};
 ghost use Rattle.receiver.specs.Kind.{kindOf};
 ghost use Rattle.receiver.specs.Low.{ended, sized, llep};
-ghost use Rattle.receiver.specs.Lows.{gives, goneBy, passedOf, oneOf, lowsOf};
+ghost use Rattle.receiver.specs.Lows.{gives, goneBy, toldOf, passedOf, oneOf, lowsOf};
 use crate::Find;
+use crate::Told;
 use crate::kind;
 use crate::kind::Kind;
 use crate::walk;
@@ -57,7 +58,7 @@ fn closed(tp: &[u8], at: usize, header: Header) -> Llep
 }
 
 // The LLEP at `at`.
-fn item(tp: &[u8], at: usize) -> Llep
+pub fn item(tp: &[u8], at: usize) -> Llep
     requires { ⌜ at ≤ length (now tp) ⌝ }
     ensures { λ r. ⌜ r ≡ llep (drop at (now (tp .entry))) ⌝ }
 {
@@ -85,33 +86,40 @@ fn give(find: Find, more: bool, end: usize) -> One
     One::Stop(Lows::Gives { find, more, end })
 }
 
-// An LLEP that isn't broken: fill is silent; a reserved content or a fragment gives 16.
+// What an LLEP that isn't broken tells: fill is silent; a reserved content or a fragment gives 16.
+pub fn told(header: Header, at: usize, len: usize) -> Told
+    requires { ⌜ at + 7 + header .size ≤ len ⌝ }
+    ensures { λ r. ⌜ r ≡ toldOf (kindOf header) header at ⌝ }
+{
+    match kind::kind_of(header) {
+        Kind::Fill => Told::More,
+        Kind::Reserved => Told::Gives(Find::Notice(16)),
+        Kind::Complete => {
+            let content = header.content;
+            let start = at + 6;
+            let len = header.size;
+            let find = Find::Low {
+                content,
+                start,
+                len,
+            };
+            Told::Gives(find)
+        }
+        Kind::First => Told::Gives(Find::Notice(16)),
+        Kind::Middle => Told::Gives(Find::Notice(16)),
+        Kind::Last => Told::Gives(Find::Notice(16)),
+    }
+}
+
 fn passed(header: Header, more: bool, at: usize, len: usize) -> One
     requires { ⌜ at + 7 + header .size ≤ len ⌝ }
     ensures { λ r. ⌜ r ≡ passedOf (kindOf header) header more at ⌝ }
 {
     let size = header.size;
     let end = at + 7 + size;
-    match kind::kind_of(header) {
-        Kind::Fill => gone(more, end),
-        Kind::Reserved => give(Find::Notice(16), more, end),
-        Kind::Complete => {
-            let content = header.content;
-            let start = at + 6;
-            let len = size;
-            give(
-                Find::Low {
-                    content,
-                    start,
-                    len,
-                },
-                more,
-                end,
-            )
-        }
-        Kind::First => give(Find::Notice(16), more, end),
-        Kind::Middle => give(Find::Notice(16), more, end),
-        Kind::Last => give(Find::Notice(16), more, end),
+    match told(header, at, len) {
+        Told::More => gone(more, end),
+        Told::Gives(find) => give(find, more, end),
     }
 }
 

@@ -4,7 +4,8 @@ ghost use Prim.Native.Nat.{_+_, _≤_, _<_, _^_, min};
 ghost use lib.ListN.{length, drop};
 ghost use Rattle.wire.specs.Reading.{headerIn};
 ghost use Rattle.receiver.specs.State.{Settled};
-ghost use Rattle.receiver.specs.Outset.{placeOf, foreOf, uponOf, behindOf, aheadOf, SetsOut};
+ghost use Rattle.receiver.specs.Outset.{placeOf, foreOf, uponOf, setOutOf};
+ghost use Rattle.receiver.specs.InOutset.{behindOf, aheadOf};
 use crate::walk;
 use crate::walk::Phase;
 use crate::walk::Walk;
@@ -103,7 +104,7 @@ pub fn upon(at: usize, len: usize) -> Phase
 // Sets about a TP's ordinary bytes, of which n stand before the first EP that begins here.
 pub fn set_out(w: Walk, n: usize, tp: &[u8]) -> Start
     requires { ⌜ (w .at + n ≤ length (now tp)) × Settled (w .phase) ⌝ }
-    ensures { λ q. ⌜ SetsOut w n (now (tp .entry)) q ⌝ }
+    ensures { λ q. ⌜ q ≡ setOutOf w n (now (tp .entry)) ⌝ }
 {
     let at = w.at;
     let phase = w.phase;

@@ -11,8 +11,9 @@ ghost use Rattle.receiver.specs.declared.low.Lows.the-variants as L;
 ghost use Rattle.receiver.specs.declared.stages.Course.the-variants as C;
 ghost use Rattle.receiver.specs.State.{Able};
 ghost use Rattle.receiver.specs.Lows.{lowsOf};
-ghost use Rattle.receiver.specs.Call.{dueOf, staged};
-ghost use Rattle.receiver.specs.Steps.{Lent, Leads, stepOf, tellOf, setly, partly};
+ghost use Rattle.receiver.specs.Call.{dueCall, stageCall};
+ghost use Rattle.receiver.specs.Pieces.{stepOf, tellOf};
+ghost use Rattle.receiver.specs.InStages.{Lent, Leads, setCall, partCall};
 use crate::Find;
 use crate::Receiver;
 use crate::Stage;
@@ -81,7 +82,7 @@ fn drop_rest(r: Receiver, len: usize, number: u8) -> Course
 // Into the ordinary bytes, of which n stand before the first EP that begins here.
 fn set_about(r: Receiver, at: usize, n: usize, tp: &[u8]) -> Course
     requires { ⌜ (at + n ≤ length (now tp)) × Lent r at (now tp) ⌝ }
-    ensures { λ q. ⌜ Leads (setly r at n (now (tp .entry))) r (now (tp .entry)) q ⌝ }
+    ensures { λ q. ⌜ Leads (setCall r at n (now (tp .entry))) r (now (tp .entry)) q ⌝ }
 {
     let w = r.walk;
     let phase = w.phase;
@@ -100,7 +101,7 @@ fn set_about(r: Receiver, at: usize, n: usize, tp: &[u8]) -> Course
 // Behind the low-latency part, which ends at `at`.
 fn due(r: Receiver, offset: usize, at: usize, tp: &[u8]) -> Course
     requires { ⌜ (offset < 2048) × Lent r at (now tp) ⌝ }
-    ensures { λ q. ⌜ Leads (dueOf r offset at (now (tp .entry))) r (now (tp .entry)) q ⌝ }
+    ensures { λ q. ⌜ Leads (dueCall r offset at (now (tp .entry))) r (now (tp .entry)) q ⌝ }
 {
     match outset::place_of(offset, at, tp.len()) {
         Place::Outside => drop_rest(r, tp.len(), 10),
@@ -118,7 +119,7 @@ fn low_walk(low: bool, tp: &[u8], at: usize) -> Lows
     Lows::End(at)
 }
 
-fn low_stage(more: bool, offset: usize) -> Stage
+pub fn low_stage(more: bool, offset: usize) -> Stage
     ensures { λ q. ⌜ q ≡ cond more (Low offset) (Due offset) ⌝ }
 {
     if more {
@@ -130,7 +131,7 @@ fn low_stage(more: bool, offset: usize) -> Stage
 // The low-latency part, if there is one, and what is behind it.
 fn part(r: Receiver, low: bool, offset: usize, at: usize, tp: &[u8]) -> Course
     requires { ⌜ (offset < 2048) × Lent r at (now tp) ⌝ }
-    ensures { λ q. ⌜ Leads (partly low r offset at (now (tp .entry))) r (now (tp .entry)) q ⌝ }
+    ensures { λ q. ⌜ Leads (partCall low r offset at (now (tp .entry))) r (now (tp .entry)) q ⌝ }
 {
     let w = r.walk;
     let phase = w.phase;
@@ -148,7 +149,7 @@ fn part(r: Receiver, low: bool, offset: usize, at: usize, tp: &[u8]) -> Course
 // Takes the TP up where it stands. Each part of the way is called once, so that the compiler makes one function of all.
 pub fn take_up(r: Receiver, tp: &[u8]) -> Course
     requires { ⌜ Able r × (length (now tp) ≡ r .size) ⌝ }
-    ensures { λ q. ⌜ Leads (staged (r .stage) r (now (tp .entry))) r (now (tp .entry)) q ⌝ }
+    ensures { λ q. ⌜ Leads (stageCall (r .stage) r (now (tp .entry))) r (now (tp .entry)) q ⌝ }
 {
     let w = r.walk;
     match entry::begin(r, tp) {

@@ -3,10 +3,11 @@ ghost use mathlib.Core.Path.{_≡_};
 ghost use Prim.Native.Nat.{_+_, _-_, _≤_, _<_, _^_};
 ghost use lib.ListN.{length, take, drop};
 ghost use Rattle.digits.specs.Digits.{number};
-ghost use Rattle.receiver.specs.declared.walk.Phase.the-variants.{Body};
-ghost use Rattle.receiver.specs.State.{Sound, Roomy};
-ghost use Rattle.receiver.specs.Turns.{walkAt, headerTurn, Stored, Turned, Ends};
+ghost use Rattle.receiver.specs.State.{Sound, Roomy, Counts};
+ghost use Rattle.receiver.specs.Turns.{headerTurn, bodyTurn, grownBy, advanceOf};
+ghost use Rattle.receiver.specs.InWalk.{pasted, roomOf, Ends};
 use crate::judge;
+use crate::outset;
 use wire::Header;
 
 // Out of step; in a header, of which these bytes are read (none between two EPs); behind a header that got 14; in an
@@ -44,25 +45,6 @@ pub struct Answer {
 pub enum Turn {
     More(Walk),
     Stop(Answer),
-}
-
-// n bytes of an EP's data, into the room if they are kept.
-fn store(tp: &[u8], at: usize, n: usize, kept: Kept, room: &mut [u8]) -> Kept
-    requires { ⌜ at + n ≤ length (now tp) ⌝ }
-    requires { ⌜ Roomy (length (now room)) kept n ⌝ }
-    ensures { λ r. ⌜ Stored (now (tp .entry)) at n kept (now (room .entry)) r (now (room .exit)) ⌝ }
-{
-    match kept {
-        Kept::Empty => kept,
-        Kept::Of { content, len } => {
-            let end = at + n;
-            queue::copy_at(room, len, &tp[at..end]);
-            Kept::Of {
-                content,
-                len: len + n,
-            }
-        }
-    }
 }
 
 fn wide(b: u8) -> u64
@@ -125,36 +107,87 @@ fn header(tp: &[u8], at: usize, have: usize, word: u64, kept: Kept, cap: usize) 
     judge::whole(at + missing, w, kept, cap)
 }
 
+// What is kept, with n bytes more.
+fn grown(n: usize, kept: Kept) -> Kept
+    requires { ⌜ Counts kept n ⌝ }
+    ensures { λ r. ⌜ r ≡ grownBy n kept ⌝ }
+{
+    match kept {
+        Kept::Empty => kept,
+        Kept::Of { content, len } => Kept::Of {
+            content,
+            len: len + n,
+        },
+    }
+}
+
 // Reading an EP's data on.
-fn body(tp: &[u8], at: usize, header: Header, left: usize, kept: Kept, room: &mut [u8]) -> Turn
-    requires { ⌜ Sound (length (now room)) (length (now tp)) (walkAt at (Body header left) kept) ⌝ }
-    ensures { λ r. ⌜ Turned (length (now (room .entry))) (walkAt at (Body header left) kept) (now (tp .entry)) (now (room .entry)) r (now (room .exit)) ⌝ }
+fn body(tp: &[u8], at: usize, header: Header, left: usize, kept: Kept) -> Turn
+    requires { ⌜ (at ≤ length (now tp)) × Counts kept left ⌝ }
+    ensures { λ r. ⌜ r ≡ bodyTurn (now (tp .entry)) at header left kept ⌝ }
 {
     let rest = tp.len() - at;
     if rest < left {
-        let k = store(tp, at, rest, kept, room);
+        let k = grown(rest, kept);
         let end = at + rest;
-        let owed = left - rest;
-        let phase = Phase::Body { header, left: owed };
+        let remains = left - rest;
+        let phase = Phase::Body {
+            header,
+            left: remains,
+        };
         return judge::stop(end, phase, k, Gain::Nothing);
     }
-    let k = store(tp, at, left, kept, room);
+    let k = grown(left, kept);
     judge::finish(at + left, header, k)
 }
 
-// One turn of a call.
-fn advance(w: Walk, tp: &[u8], room: &mut [u8]) -> Turn
-    requires { ⌜ Sound (length (now room)) (length (now tp)) w ⌝ }
-    ensures { λ r. ⌜ Turned (length (now (room .entry))) w (now (tp .entry)) (now (room .entry)) r (now (room .exit)) ⌝ }
+// One turn among ordinary bytes: a header or what there is of it, or a run of data.
+pub fn advance(w: Walk, tp: &[u8], cap: usize) -> Turn
+    requires { ⌜ Sound cap (length (now tp)) w ⌝ }
+    ensures { λ r. ⌜ r ≡ advanceOf cap w (now (tp .entry)) ⌝ }
 {
     let at = w.at;
     let phase = w.phase;
     let kept = w.kept;
     match phase {
         Phase::Lost => judge::stop(tp.len(), phase, kept, Gain::Nothing),
-        Phase::Head { have, word } => header(tp, at, have, word, kept, room.len()),
-        Phase::Judged(h) => judge::admit(at, h, kept, room.len()),
-        Phase::Body { header: h, left } => body(tp, at, h, left, kept, room),
+        Phase::Head { have, word } => header(tp, at, have, word, kept, cap),
+        Phase::Judged(h) => judge::admit(at, h, kept, cap),
+        Phase::Body { header: h, left } => body(tp, at, h, left, kept),
+    }
+}
+
+// n bytes of an EP's data, into the room if they are kept.
+fn put(tp: &[u8], at: usize, n: usize, kept: Kept, room: &mut [u8])
+    requires { ⌜ at + n ≤ length (now tp) ⌝ }
+    requires { ⌜ Roomy (length (now room)) kept n ⌝ }
+    ensures { λ _. ⌜ now (room .exit) ≡ pasted kept (now (room .entry)) (drop at (now (tp .entry))) n ⌝ }
+{
+    match kept {
+        Kept::Empty => {}
+        Kept::Of { content: _, len } => {
+            let end = at + n;
+            queue::copy_at(room, len, &tp[at..end]);
+        }
+    }
+}
+
+// The data that a turn reads, into the room if they are kept.
+fn store(w: Walk, tp: &[u8], room: &mut [u8])
+    requires { ⌜ Sound (length (now room)) (length (now tp)) w ⌝ }
+    ensures { λ _. ⌜ now (room .exit) ≡ roomOf w (now (tp .entry)) (now (room .entry)) ⌝ }
+{
+    let at = w.at;
+    let phase = w.phase;
+    let kept = w.kept;
+    match phase {
+        Phase::Lost => {}
+        Phase::Head { have: _, word: _ } => {}
+        Phase::Judged(_) => {}
+        Phase::Body { header: _, left } => {
+            let n = outset::least(left, tp.len() - at);
+            put(tp, at, n, kept, room);
+        }
     }
 }
 
@@ -165,7 +198,8 @@ pub fn onward(start: Walk, tp: &[u8], room: &mut [u8]) -> Answer
 {
     let mut w = start;
     let out = loop {
-        match advance(w, tp, room) {
+        store(w, tp, room);
+        match advance(w, tp, room.len()) {
             Turn::More(x) => w = x,
             Turn::Stop(a) => break a,
         }

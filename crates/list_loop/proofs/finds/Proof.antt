@@ -27,8 +27,8 @@ loop-holds c = (c .before .before .before .before .before .pre .able, (omega ari
 step-requires : tie.Need-step-requires Inv-loop μ-loop
 step-requires c κs = c .before .before .before .loop .inv .0
 
-goes-on-requires : tie.Need-goes-on-requires Inv-loop μ-loop
-goes-on-requires c κs = search needs
+lasts-requires : tie.Need-lasts-requires Inv-loop μ-loop
+lasts-requires c κs = search needs
 
 add-t17 : tie.Need-add-t17 Inv-loop μ-loop
 add-t17 c = omega (arith, c .before .before .before .before .before .before .before .before .before .before .before .before .before .before .before .before .before .before .before .pre .end)
@@ -63,7 +63,7 @@ loop-less c =
     let l = c .before .before .before .before .before .before .before .before .before .before .before .before .loop in
     let q = c .before .before .before .before .before .before .before .before .step in
     let room : l .at + 80 ≤ length (l .out) = omega (arith, s .pre .room, l .inv .1 .1 .1, c .before .before .before .before .before .before .before .before .before .before .before .loop-test .taken) in
-    omega (arith, c .before .before .before .before .before .before .before .before .before .before .before .loop-test .taken, grows (s .args .first .done + 1) (q .result .step .find) (l .out) _ (l .at) (q .result .at) room (q .ensures .1) (sym (c .before .goes-on .ensures) ∙ not-false _ (c .if1 .left)))
+    omega (arith, c .before .before .before .before .before .before .before .before .before .before .before .loop-test .taken, grows (s .args .first .done + 1) (q .result .step .find) (l .out) _ (l .at) (q .result .at) room (q .ensures .1) (sym (c .before .lasts .ensures) ∙ not-false _ (c .if1 .left)))
 
 loop-again : tie.Need-loop-again Inv-loop μ-loop
 loop-again c =
@@ -101,7 +101,7 @@ finds-spec =
     add-number
     loop-holds
     step-requires
-    goes-on-requires
+    lasts-requires
     add-t17
     add-t19
     same-length

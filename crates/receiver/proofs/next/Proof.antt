@@ -1,6 +1,6 @@
 -- `receiver::next` meets its contract: 1 and 6 are tested, and the TP is taken up where it stands: its find, or reading on.
 -- Assumes nothing.
-use Rattle.receiver.specs.Call.{staged}
+use Rattle.receiver.specs.Call.{stageCall}
 use borrow.Author.Needs.{needs}
 use Rattle.receiver.proofs.Calling.{refused-gives, same-gives}
 use Rattle.receiver.proofs.Answering.{call-gives, call-reads, call-refused, call-six, reads-of}
@@ -34,7 +34,7 @@ onward-requires c κs =
     let a = s .args in
     let f = c .before .before .before .before .before .before .before .if1 .left in
     let w = c .before .before .before .before .before .if2 .left in
-    let o = reads-of (staged (a .r .stage) (a .r) (a .tp .now)) (a .r) (a .tp .now) _ _ (c .before .before .before .before .take-up .ensures) (c .before .before .w .given .1) in
+    let o = reads-of (stageCall (a .r .stage) (a .r) (a .tp .now)) (a .r) (a .tp .now) _ _ (c .before .before .before .before .take-up .ensures) (c .before .before .w .given .1) in
     rw (f, w) (o .sound)
 
 tell-requires : tie.Need-tell-requires

@@ -2,7 +2,7 @@
 -- Assumes nothing.
 use borrow.Author.Needs.{needs}
 use borrow.Author.Tests.{eq-eqb, le-ltb, lt-ltb, ne-eqb}
-use Rattle.receiver.specs.Outset.{aheadOf}
+use Rattle.receiver.specs.InOutset.{aheadOf}
 use Rattle.receiver.proofs.outset.ahead.Statement.{statement}
 use Rattle.receiver.proofs.outset.ahead.Tie as tie
 

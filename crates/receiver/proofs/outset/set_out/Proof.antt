@@ -2,8 +2,8 @@
 -- Assumes nothing.
 use mathlib.Core.Path.{sym, _∙_}
 use native.Mathlib.Omega.{arith}
+use Rattle.receiver.proofs.SettingOut.{set-agree, set-by, set-else}
 use borrow.Author.Needs.{needs}
-use Rattle.receiver.proofs.SettingOut.{out-agree, out-bad, out-else, out-off}
 use Rattle.receiver.proofs.outset.set_out.Statement.{statement}
 use Rattle.receiver.proofs.outset.set_out.Tie as tie
 
@@ -26,26 +26,16 @@ enum-known-k : tie.Need-enum-known-k
 enum-known-k c = search needs
 
 returns : tie.Need-returns
-returns c =
-    let s = c .before .before .before .before .before .before in
-    let a = s .args in
-    out-agree (a .w) (a .n) (a .tp .now) _ (sym (c .before .before .before .before .forecast .ensures) ∙ c .before .before .k .given .1) (c .if1 .taken) (s .pre .1)
+returns c = let a = c .before .before .before .before .before .before .args in set-agree (a .w) (a .n) (a .tp .now) _ (sym (c .before .before .before .before .forecast .ensures) ∙ c .before .before .k .given .1) (c .if1 .taken)
 
 returns-2 : tie.Need-returns-2
-returns-2 c =
-    let s = c .before .before .before .before .before in
-    let a = s .args in
-    rw (c .upon .ensures) (out-off (a .w) (a .n) (a .tp .now) (s .pre .0) (sym (c .before .before .before .forecast .ensures) ∙ c .before .enum-told .given .1))
+returns-2 c = let a = c .before .before .before .before .before .args in rw (c .upon .ensures) (set-by (a .w) (a .n) (a .tp .now) _ (sym (c .before .before .before .forecast .ensures) ∙ c .before .enum-told .given .1))
 
 returns-3 : tie.Need-returns-3
-returns-3 c =
-    let a = c .before .before .before .before .args in
-    out-bad (a .w) (a .n) (a .tp .now) (sym (c .before .before .forecast .ensures) ∙ c .enum-told2 .given .1)
+returns-3 c = let a = c .before .before .before .before .args in set-by (a .w) (a .n) (a .tp .now) _ (sym (c .before .before .forecast .ensures) ∙ c .enum-told2 .given .1)
 
 returns-4 : tie.Need-returns-4
-returns-4 c =
-    let a = c .before .before .before .before .before .before .args in
-    out-else (a .w) (a .n) (a .tp .now) _ (sym (c .before .before .before .before .forecast .ensures) ∙ c .before .before .k .given .1) (c .if1 .left)
+returns-4 c = let a = c .before .before .before .before .before .before .args in set-else (a .w) (a .n) (a .tp .now) _ (sym (c .before .before .before .before .forecast .ensures) ∙ c .before .before .k .given .1) (c .if1 .left)
 
 pub set-out-spec : {M : Type 1} → statement M
 set-out-spec =

@@ -29,7 +29,7 @@ returns : tie.Need-returns
 returns c =
     let s = c .before .before .before .before .before .before in
     let a = s .args in
-    set-reads (a .r) (a .at) (a .n) (a .tp .now) _ (s .pre .1) _ (c .before .before .before .set-out .ensures) (c .before .x .given .1)
+    set-reads (a .r) (a .at) (a .n) (a .tp .now) _ (s .pre .1) _ (s .pre .0) (c .before .before .before .set-out .ensures) (c .before .x .given .1)
 
 returns-2 : tie.Need-returns-2
 returns-2 c =

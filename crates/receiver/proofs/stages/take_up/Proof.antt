@@ -1,6 +1,6 @@
 -- `receiver::stages::take_up` meets its contract: where the TP was taken up leads to the call's answer.
 -- Assumes nothing.
-use Rattle.receiver.specs.Call.{staged}
+use Rattle.receiver.specs.Call.{stageCall}
 use borrow.Author.Needs.{needs}
 use Rattle.receiver.proofs.TakingUp.{find-leads, part-at, part-leads, plain-leads}
 use Rattle.receiver.proofs.stages.take_up.Statement.{statement}
@@ -18,7 +18,7 @@ enum-known-low c = search needs
 part-requires : tie.Need-part-requires
 part-requires c κs =
     let a = c .before .before .before .before .before .before .args in
-    let g = staged (a .r .stage) (a .r) (a .tp .now) in
+    let g = stageCall (a .r .stage) (a .r) (a .tp .now) in
     let p = part-at g (a .r) (a .tp .now) _ (c .before .before .before .begin .ensures) _ _ _ (c .before .low .given .1) in
     (p .small, p .lent)
 
@@ -28,19 +28,19 @@ enum-told c = search needs
 returns : tie.Need-returns
 returns c =
     let a = c .before .before .before .before .before .before .args in
-    let g = staged (a .r .stage) (a .r) (a .tp .now) in
+    let g = stageCall (a .r .stage) (a .r) (a .tp .now) in
     find-leads g (a .r) (a .tp .now) _ (c .before .before .before .begin .ensures) _ (c .before .step .given .1)
 
 returns-2 : tie.Need-returns-2
 returns-2 c =
     let a = c .before .before .before .before .before .before .before .args in
-    let g = staged (a .r .stage) (a .r) (a .tp .now) in
+    let g = stageCall (a .r .stage) (a .r) (a .tp .now) in
     part-leads g (a .r) (a .tp .now) _ (c .before .before .before .before .begin .ensures) _ _ _ _ (c .before .before .low .given .1) (c .part .ensures)
 
 returns-3 : tie.Need-returns-3
 returns-3 c =
     let a = c .before .before .before .before .before .args in
-    let g = staged (a .r .stage) (a .r) (a .tp .now) in
+    let g = stageCall (a .r .stage) (a .r) (a .tp .now) in
     plain-leads g (a .r) (a .tp .now) _ (c .before .before .begin .ensures) (c .enum-told .given .1)
 
 pub take-up-spec : {M : Type 1} → statement M

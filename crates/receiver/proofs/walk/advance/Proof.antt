@@ -1,14 +1,8 @@
--- `receiver::walk::advance` meets its contract: one turn for each phase.
+-- `receiver::walk::advance` meets its contract: one clause for each phase.
 -- Assumes nothing.
-use mathlib.Core.Path.{ap, refl, sym, _≡_}
 use native.Mathlib.Omega.{arith}
-use lib.ListN.{length}
-use Rattle.receiver.specs.declared.walk.Phase.{Phase}
-use Rattle.receiver.specs.State.{Fine}
-use Rattle.receiver.specs.Turns.{walkAt}
+use Rattle.receiver.proofs.Advancing.{advance-by, advance-lost, counts, fine-by}
 use borrow.Author.Needs.{needs}
-use Rattle.receiver.proofs.Bodies.{header-turned, lost-turned}
-use Rattle.receiver.proofs.Turning.{admit-turned}
 use Rattle.receiver.proofs.walk.advance.Statement.{statement}
 use Rattle.receiver.proofs.walk.advance.Tie as tie
 
@@ -23,61 +17,38 @@ enum-known-phase c = search needs
 
 header-requires : tie.Need-header-requires
 header-requires c κs =
-    let s = c .before .before .before .before .before in
+    let s = c .before .before .before .before in
     let a = s .args in
-    let f : Fine (length (a .room .now)) (a .w .phase) (a .w .kept) = s .pre .phase in
-    let g = rw (c .before .phase .given .1) at f in
+    let g = fine-by (a .cap) (a .w) (a .tp .now) _ (c .before .phase .given .1) (s .pre) in
     ((g .0, g .1, s .pre .at), g .2)
 
 enum-known-phase-2 : tie.Need-enum-known-phase-2
 enum-known-phase-2 c = search needs
 
 admit-requires : tie.Need-admit-requires
-admit-requires c κs =
-    let s = c .before .before .before .before .before in
-    let a = s .args in
-    let f : Fine (length (a .room .now)) (a .w .phase) (a .w .kept) = s .pre .phase in
-    let g = rw (c .before .phase2 .given .1) at f in
-    g
+admit-requires c κs = let s = c .before .before .before .before in fine-by (s .args .cap) (s .args .w) (s .args .tp .now) _ (c .before .phase2 .given .1) (s .pre)
 
 enum-known-phase-3 : tie.Need-enum-known-phase-3
 enum-known-phase-3 c = search needs
 
 body-requires : tie.Need-body-requires
 body-requires c κs =
-    let s = c .before .before .before .before .before .before in
+    let s = c .before .before .before .before in
     let a = s .args in
-    let f : Fine (length (a .room .now)) (a .w .phase) (a .w .kept) = s .pre .phase in
-    let g = rw (c .before .before .phase3 .given .1) at f in
-    record { at = s .pre .at; phase = g }
+    let g = fine-by (a .cap) (a .w) (a .tp .now) _ (c .before .phase3 .given .1) (s .pre) in
+    (s .pre .at, counts (a .cap) _ (a .w .kept) (omega arith) g)
 
 returns : tie.Need-returns
-returns c =
-    let s = c .before .before .before .before .before in
-    let a = s .args in
-    rw (c .stop .ensures) (lost-turned (length (a .room .now)) (a .tp .now) (a .room .now) refl (λ i. omega (arith, c .before .before .before .before .shared-slice-known .given i)) (a .w) (s .pre) (c .before .enum-told .given .1))
+returns c = let a = c .before .before .before .before .args in rw (c .stop .ensures) (advance-lost (a .cap) (a .w) (a .tp .now) (c .before .enum-told .given .1))
 
 returns-2 : tie.Need-returns-2
-returns-2 c =
-    let s = c .before .before .before .before .before .before in
-    let a = s .args in
-    rw (c .header .ensures) (header-turned (length (a .room .now)) (a .tp .now) (a .room .now) refl (λ i. omega (arith, c .before .before .before .before .before .shared-slice-known .given i)) (a .w) _ _ (s .pre) (c .before .before .phase .given .1))
+returns-2 c = let a = c .before .before .before .before .before .args in rw (c .header .ensures) (advance-by (a .cap) (a .w) (a .tp .now) _ (c .before .before .phase .given .1))
 
 returns-3 : tie.Need-returns-3
-returns-3 c =
-    let s = c .before .before .before .before .before .before in
-    let a = s .args in
-    rw (c .admit .ensures) (admit-turned (length (a .room .now)) (a .tp .now) (a .room .now) refl (a .w) _ (s .pre) (c .before .before .phase2 .given .1))
-
-same-length : tie.Need-same-length
-same-length c = search needs
+returns-3 c = let a = c .before .before .before .before .before .args in rw (c .admit .ensures) (advance-by (a .cap) (a .w) (a .tp .now) _ (c .before .before .phase2 .given .1))
 
 returns-4 : tie.Need-returns-4
-returns-4 c =
-    let s = c .before .before .before .before .before .before .before .before .before in
-    let a = s .args in
-    let v : walkAt (a .w .at) _ (a .w .kept) ≡ a .w = ap (λ (p : Phase). walkAt (a .w .at) p (a .w .kept)) (sym (c .before .before .before .before .before .phase3 .given .1)) in
-    rw v at (c .before .before .body .ensures)
+returns-4 c = let a = c .before .before .before .before .before .args in rw (c .body .ensures) (advance-by (a .cap) (a .w) (a .tp .now) _ (c .before .before .phase3 .given .1))
 
 pub advance-spec : {M : Type 1} → statement M
 advance-spec =
@@ -94,5 +65,4 @@ advance-spec =
     returns
     returns-2
     returns-3
-    same-length
     returns-4)

@@ -1,11 +1,12 @@
 -- `receiver::walk::onward` meets its contract: the invariant: the call that the walk still asks for is the one asked for at first. The measure counts bytes, then events.
 -- Assumes nothing.
 use mathlib.Core.Path.{refl, _∙_, _≡_}
+use native.Mathlib.Omega.{arith}
 use lib.ListN.{length}
-use borrow.Author.Needs.{needs}
 use Rattle.receiver.specs.State.{Sound, pullOf}
 use Rattle.receiver.specs.Turns.{toil}
-use Rattle.receiver.proofs.Bodies.{turn-ends, turn-on}
+use Rattle.receiver.proofs.Bodies.{turn-on, turn-ends}
+use borrow.Author.Needs.{needs}
 use Rattle.receiver.proofs.walk.onward.Statement.{statement}
 use Rattle.receiver.proofs.walk.onward.Tie as tie
 
@@ -18,23 +19,33 @@ abbrev μ-loop : tie.MeasureT-loop
 loop-holds : tie.Need-loop-holds Inv-loop μ-loop
 loop-holds c = (refl, c .before .before .pre, refl)
 
+store-requires : tie.Need-store-requires Inv-loop μ-loop
+store-requires c κs = let l = c .before .loop in rw (l .inv .0) (l .inv .1)
+
 advance-requires : tie.Need-advance-requires Inv-loop μ-loop
-advance-requires c κs = let l = c .before .loop in rw (l .inv .0) (l .inv .1)
+advance-requires c κs =
+    let l = c .before .before .before .before .loop in
+    let n : length (c .before .before .store .last .1 .1 .0) ≡ length (c .before .before .before .before .before .before .before .args .room .now) = search needs in
+    rw n (l .inv .1)
 
 enum-known-x : tie.Need-enum-known-x Inv-loop μ-loop
 enum-known-x c = search needs
 
 loop-less : tie.Need-loop-less Inv-loop μ-loop
 loop-less c =
-    let l = c .before .before .before .before .before .before .before .loop in
-    let a = c .before .before .before .before .before .before .before .before .before .before .args in
-    let o = turn-on (a .tp .now) (a .room .now) (l .room) _ (a .start) (l .w) _ (l .inv .0) (c .before .before .before .before .before .advance .ensures) _ (c .before .x .given .1) in o .less
+    let l = c .before .before .before .before .before .before .before .before .loop in
+    let a = c .before .before .before .before .before .before .before .before .before .before .before .args in
+    let n : length (c .before .before .before .before .before .before .store .last .1 .1 .0) ≡ length (a .room .now) = search needs in
+    let o = turn-on (a .tp .now) (a .room .now) (l .room) (c .before .before .before .before .before .before .store .last .1 .1 .0) (a .start) (l .w) _ (l .inv .0) n (λ i. omega (arith, c .before .before .before .before .before .before .before .before .before .before .shared-slice-known .given i)) (l .inv .1) (c .before .before .before .before .before .before .store .ensures) (c .before .before .before .advance .ensures) _ (c .before .x .given .1) in
+    o .less
 
 loop-again : tie.Need-loop-again Inv-loop μ-loop
 loop-again c =
-    let l = c .before .before .before .before .before .before .before .loop in
-    let a = c .before .before .before .before .before .before .before .before .before .before .args in
-    let o = turn-on (a .tp .now) (a .room .now) (l .room) _ (a .start) (l .w) _ (l .inv .0) (c .before .before .before .before .before .advance .ensures) _ (c .before .x .given .1) in (search needs, o .sound, o .same ∙ l .inv .2)
+    let l = c .before .before .before .before .before .before .before .before .loop in
+    let a = c .before .before .before .before .before .before .before .before .before .before .before .args in
+    let n : length (c .before .before .before .before .before .before .store .last .1 .1 .0) ≡ length (a .room .now) = search needs in
+    let o = turn-on (a .tp .now) (a .room .now) (l .room) (c .before .before .before .before .before .before .store .last .1 .1 .0) (a .start) (l .w) _ (l .inv .0) n (λ i. omega (arith, c .before .before .before .before .before .before .before .before .before .before .shared-slice-known .given i)) (l .inv .1) (c .before .before .before .before .before .before .store .ensures) (c .before .before .before .advance .ensures) _ (c .before .x .given .1) in
+    (n, o .sound, o .same ∙ l .inv .2)
 
 enum-known-a : tie.Need-enum-known-a Inv-loop μ-loop
 enum-known-a c = search needs
@@ -44,9 +55,11 @@ same-length c = search needs
 
 returns : tie.Need-returns Inv-loop μ-loop
 returns c =
-    let l = c .before .before .before .before .before .before .before .loop in
-    let a = c .before .before .before .before .before .before .before .before .before .before .args in
-    let o = turn-ends (a .tp .now) (a .room .now) (l .room) _ (a .start) (l .w) _ (l .inv .0) (c .before .before .before .before .before .advance .ensures) _ (c .before .a .given .1) (l .inv .2) in o
+    let l = c .before .before .before .before .before .before .before .before .loop in
+    let a = c .before .before .before .before .before .before .before .before .before .before .before .args in
+    let n : length (c .before .before .before .before .before .before .store .last .1 .1 .0) ≡ length (a .room .now) = search needs in
+    let o = turn-ends (a .tp .now) (a .room .now) (l .room) (c .before .before .before .before .before .before .store .last .1 .1 .0) (a .start) (l .w) _ (l .inv .0) n (λ i. omega (arith, c .before .before .before .before .before .before .before .before .before .before .shared-slice-known .given i)) (l .inv .1) (c .before .before .before .before .before .before .store .ensures) (c .before .before .before .advance .ensures) _ (c .before .a .given .1) in
+    o (l .inv .2)
 
 pub onward-spec : {M : Type 1} → statement M
 onward-spec =
@@ -55,6 +68,7 @@ onward-spec =
     Inv-loop
     μ-loop
     loop-holds
+    store-requires
     advance-requires
     enum-known-x
     loop-less

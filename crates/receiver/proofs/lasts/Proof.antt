@@ -1,8 +1,8 @@
--- `listing::goes_on` meets its contract: the find's case decides.
+-- `receiver::lasts` meets its contract: the find's case decides.
 -- Assumes nothing.
 use borrow.Author.Needs.{needs}
-use Rattle.listing.proofs.goes_on.Statement.{statement}
-use Rattle.listing.proofs.goes_on.Tie as tie
+use Rattle.receiver.proofs.lasts.Statement.{statement}
+use Rattle.receiver.proofs.lasts.Tie as tie
 
 enum-told : tie.Need-enum-told
 enum-told c = search needs
@@ -34,8 +34,8 @@ returns-4 c = search needs
 returns-5 : tie.Need-returns-5
 returns-5 c = search needs
 
-pub goes-on-spec : {M : Type 1} → statement M
-goes-on-spec =
+pub lasts-spec : {M : Type 1} → statement M
+lasts-spec =
     tie.close
     (tie.spec
     enum-told

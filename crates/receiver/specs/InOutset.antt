@@ -1,0 +1,53 @@
+-- What the private functions of src/outset.rt and src/stages.rt promise one another about setting out. Assumes nothing.
+use Prim.Native.Nat.{ℕ, _+_, _-_, min}
+use mathlib.Core.Path.{_≡_}
+use mathlib.Core.Bool.{cond}
+use mathlib.Core.Option.{Option, none, some}
+use mathlib.Core.List.{List}
+use lib.Dec.{ltb, eqb}
+use lib.ListN.{length, take, drop}
+use Rattle.digits.specs.Digits.{number}
+use Rattle.wire.specs.declared.Header.{Header}
+use Rattle.wire.specs.Reading.{headerIn}
+use Rattle.receiver.specs.declared.outset.Fore.{Fore}
+use Rattle.receiver.specs.declared.outset.Fore.the-variants.{Bad, At}
+use Rattle.receiver.specs.declared.outset.Start.{Start}
+use Rattle.receiver.specs.declared.outset.Start.the-variants.{Reads, Loses}
+use Rattle.receiver.specs.declared.walk.Answer.{Answer}
+use Rattle.receiver.specs.declared.walk.Gain.the-variants.{Notice}
+use Rattle.receiver.specs.declared.walk.Kept.the-variants.{Empty}
+use Rattle.receiver.specs.declared.walk.Walk.{Walk}
+use Rattle.receiver.specs.Forecast as F
+use Rattle.receiver.specs.Low.{wire}
+use Rattle.receiver.specs.Pull.{Pulled}
+use Rattle.receiver.specs.State.{frameOf, from, pullOf, Sound}
+use Rattle.receiver.specs.Outset.{uponOf}
+use Rattle.receiver.specs.InWalk.{shown}
+
+-- the forecast of a header that is read on for it only
+abbrev pub behindOf : Option Header → ℕ → ℕ → Fore
+behindOf none n rest = Bad
+behindOf (some h) n rest = At (n + min (h .size) (rest - n))
+
+unfoldable pub aheadOf : List ℕ → ℕ → ℕ → ℕ → Fore
+aheadOf tp at n w =
+    cond (eqb n 0) (At 0)
+    (cond (ltb (length tp - at) (6 - n)) (At (length tp - at))
+    (behindOf (headerIn (number w (take (6 - n) (drop at tp)))) (6 - n) (length tp - at)))
+
+-- the call that sets about the bytes
+unfoldable pub setOut : ℕ → Walk → ℕ → List ℕ → List ℕ → Pulled wire
+setOut cap w n tp m = from cap (F.start wire (frameOf (w .phase)) n (drop (w .at) tp)) w tp m
+
+-- out of step by this notice, and on from this place
+abbrev pub loseOf : ℕ → ℕ → ℕ → Answer
+loseOf at len n = record { walk = record { at = at; phase = uponOf at len; kept = Empty }; gain = Notice n }
+
+-- reading on with x answers the call that sets about the bytes, whatever room is lent
+pub record ReadsOn (w : Walk) (n : ℕ) (tp : List ℕ) (x : Walk) : Type 0 where
+  pub same : (m : List ℕ) → pullOf (length m) x tp m ≡ setOut (length m) w n tp m
+  pub sound : (cap : ℕ) → Sound cap (length tp) w → Sound cap (length tp) x
+
+unfoldable pub SetsOut : Walk → ℕ → List ℕ → Start → Type 0
+SetsOut w n tp (Reads x) = ReadsOn w n tp x
+SetsOut w n tp (Loses i) = (m : List ℕ) → shown (loseOf (w .at + n) (length tp) i) m ≡ setOut (length m) w n tp m
