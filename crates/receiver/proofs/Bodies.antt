@@ -215,10 +215,10 @@ module _ (cap : ℕ) where
         by (Body h left) e = body-turned w h left s e
 
 -- the loop over turns: from w₀ with the room's bytes m₀ it has come to w and m, and the turn's data are put in
-module _ (tp m₀ m m′ : List ℕ) (w₀ w : Walk) (r : Turn) (full : length m ≡ length m₀) (full′ : length m′ ≡ length m₀) (bytes : Bytes tp)
-    (s : Sound (length m₀) (length tp) w) (put : m′ ≡ roomOf w tp m) (t : r ≡ advanceOf (length m′) w tp) where
+module _ (tp m₀ m m′ : List ℕ) (w₀ w : Walk) (r : Turn) (full : length m ≡ length m₀) (bytes : Bytes tp) (s : Sound (length m₀) (length tp) w)
+    (t : (r ≡ advanceOf (length m) w tp) × (m′ ≡ roomOf w tp m)) where
   turned : Carries (length m₀) w tp m r m′
-  turned = rw (t, full′, put) (advance-carries (length m₀) tp m full bytes w s)
+  turned = rw (t .0, full, t .1) (advance-carries (length m₀) tp m full bytes w s)
 
   pub turn-on : (x : Walk) → r ≡ More x → On (length m₀) w tp m x m′
   unfolding Carries

@@ -172,10 +172,10 @@ fn put(tp: &[u8], at: usize, n: usize, kept: Kept, room: &mut [u8])
     }
 }
 
-// The data that a turn reads, into the room if they are kept.
-fn store(w: Walk, tp: &[u8], room: &mut [u8])
+// The same turn, the data that it reads put into the room if they are kept.
+fn advance_in(w: Walk, tp: &[u8], room: &mut [u8]) -> Turn
     requires { ⌜ Sound (length (now room)) (length (now tp)) w ⌝ }
-    ensures { λ _. ⌜ now (room .exit) ≡ roomOf w (now (tp .entry)) (now (room .entry)) ⌝ }
+    ensures { λ r. ⌜ (r ≡ advanceOf (length (now (room .entry))) w (now (tp .entry))) × (now (room .exit) ≡ roomOf w (now (tp .entry)) (now (room .entry))) ⌝ }
 {
     let at = w.at;
     let phase = w.phase;
@@ -184,11 +184,13 @@ fn store(w: Walk, tp: &[u8], room: &mut [u8])
         Phase::Lost => {}
         Phase::Head { have: _, word: _ } => {}
         Phase::Judged(_) => {}
-        Phase::Body { header: _, left } => {
+        Phase::Body { header: h, left } => {
             let n = outset::least(left, tp.len() - at);
             put(tp, at, n, kept, room);
+            return body(tp, at, h, left, kept);
         }
     }
+    advance(w, tp, room.len())
 }
 
 // Reads on up to the next find, and not a byte further.
@@ -198,8 +200,7 @@ pub fn onward(start: Walk, tp: &[u8], room: &mut [u8]) -> Answer
 {
     let mut w = start;
     let out = loop {
-        store(w, tp, room);
-        match advance(w, tp, room.len()) {
+        match advance_in(w, tp, room) {
             Turn::More(x) => w = x,
             Turn::Stop(a) => break a,
         }

@@ -19,32 +19,27 @@ abbrev μ-loop : tie.MeasureT-loop
 loop-holds : tie.Need-loop-holds Inv-loop μ-loop
 loop-holds c = (refl, c .before .before .pre, refl)
 
-store-requires : tie.Need-store-requires Inv-loop μ-loop
-store-requires c κs = let l = c .before .loop in rw (l .inv .0) (l .inv .1)
-
-advance-requires : tie.Need-advance-requires Inv-loop μ-loop
-advance-requires c κs =
-    let l = c .before .before .before .before .loop in
-    let n : length (c .before .before .store .last .1 .1 .0) ≡ length (c .before .before .before .before .before .before .before .args .room .now) = search needs in
-    rw n (l .inv .1)
+advance-in-requires : tie.Need-advance-in-requires Inv-loop μ-loop
+advance-in-requires c κs = let l = c .before .loop in rw (l .inv .0) (l .inv .1)
 
 enum-known-x : tie.Need-enum-known-x Inv-loop μ-loop
 enum-known-x c = search needs
 
 loop-less : tie.Need-loop-less Inv-loop μ-loop
 loop-less c =
-    let l = c .before .before .before .before .before .before .before .before .loop in
-    let a = c .before .before .before .before .before .before .before .before .before .before .before .args in
-    let n : length (c .before .before .before .before .before .before .store .last .1 .1 .0) ≡ length (a .room .now) = search needs in
-    let o = turn-on (a .tp .now) (a .room .now) (l .room) (c .before .before .before .before .before .before .store .last .1 .1 .0) (a .start) (l .w) _ (l .inv .0) n (λ i. omega (arith, c .before .before .before .before .before .before .before .before .before .before .shared-slice-known .given i)) (l .inv .1) (c .before .before .before .before .before .before .store .ensures) (c .before .before .before .advance .ensures) _ (c .before .x .given .1) in
+    let l = c .before .before .before .before .before .before .before .loop in
+    let a = c .before .before .before .before .before .before .before .before .before .before .args in
+    let d = c .before .before .before .before .before .advance-in in
+    let o = turn-on (a .tp .now) (a .room .now) (l .room) (d .last .1 .1 .0) (a .start) (l .w) _ (l .inv .0) (λ i. omega (arith, c .before .before .before .before .before .before .before .before .before .shared-slice-known .given i)) (l .inv .1) (d .ensures) _ (c .before .x .given .1) in
     o .less
 
 loop-again : tie.Need-loop-again Inv-loop μ-loop
 loop-again c =
-    let l = c .before .before .before .before .before .before .before .before .loop in
-    let a = c .before .before .before .before .before .before .before .before .before .before .before .args in
-    let n : length (c .before .before .before .before .before .before .store .last .1 .1 .0) ≡ length (a .room .now) = search needs in
-    let o = turn-on (a .tp .now) (a .room .now) (l .room) (c .before .before .before .before .before .before .store .last .1 .1 .0) (a .start) (l .w) _ (l .inv .0) n (λ i. omega (arith, c .before .before .before .before .before .before .before .before .before .before .shared-slice-known .given i)) (l .inv .1) (c .before .before .before .before .before .before .store .ensures) (c .before .before .before .advance .ensures) _ (c .before .x .given .1) in
+    let l = c .before .before .before .before .before .before .before .loop in
+    let a = c .before .before .before .before .before .before .before .before .before .before .args in
+    let d = c .before .before .before .before .before .advance-in in
+    let o = turn-on (a .tp .now) (a .room .now) (l .room) (d .last .1 .1 .0) (a .start) (l .w) _ (l .inv .0) (λ i. omega (arith, c .before .before .before .before .before .before .before .before .before .shared-slice-known .given i)) (l .inv .1) (d .ensures) _ (c .before .x .given .1) in
+    let n : length (d .last .1 .1 .0) ≡ length (a .room .now) = search needs in
     (n, o .sound, o .same ∙ l .inv .2)
 
 enum-known-a : tie.Need-enum-known-a Inv-loop μ-loop
@@ -55,10 +50,10 @@ same-length c = search needs
 
 returns : tie.Need-returns Inv-loop μ-loop
 returns c =
-    let l = c .before .before .before .before .before .before .before .before .loop in
-    let a = c .before .before .before .before .before .before .before .before .before .before .before .args in
-    let n : length (c .before .before .before .before .before .before .store .last .1 .1 .0) ≡ length (a .room .now) = search needs in
-    let o = turn-ends (a .tp .now) (a .room .now) (l .room) (c .before .before .before .before .before .before .store .last .1 .1 .0) (a .start) (l .w) _ (l .inv .0) n (λ i. omega (arith, c .before .before .before .before .before .before .before .before .before .before .shared-slice-known .given i)) (l .inv .1) (c .before .before .before .before .before .before .store .ensures) (c .before .before .before .advance .ensures) _ (c .before .a .given .1) in
+    let l = c .before .before .before .before .before .before .before .loop in
+    let a = c .before .before .before .before .before .before .before .before .before .before .args in
+    let d = c .before .before .before .before .before .advance-in in
+    let o = turn-ends (a .tp .now) (a .room .now) (l .room) (d .last .1 .1 .0) (a .start) (l .w) _ (l .inv .0) (λ i. omega (arith, c .before .before .before .before .before .before .before .before .before .shared-slice-known .given i)) (l .inv .1) (d .ensures) _ (c .before .a .given .1) in
     o (l .inv .2)
 
 pub onward-spec : {M : Type 1} → statement M
@@ -68,8 +63,7 @@ onward-spec =
     Inv-loop
     μ-loop
     loop-holds
-    store-requires
-    advance-requires
+    advance-in-requires
     enum-known-x
     loop-less
     loop-again
