@@ -12,8 +12,13 @@ pub mod Parting
 pub mod TakingUp
 pub mod Answering
 pub mod Piecing
-pub mod Pieced
+pub mod Moving
+pub mod Making
+pub mod Promising
+pub mod Looping
 pub mod Tiling
+pub mod Seeing
+pub mod Bringing
 pub mod Eventing
 pub mod Pinned
 pub mod Pulling

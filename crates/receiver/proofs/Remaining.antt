@@ -35,7 +35,8 @@ use Rattle.receiver.specs.State.{Able}
 use Rattle.receiver.specs.Tp.{Listing}
 use Rattle.receiver.proofs.Called.{call-rest, comingOf}
 use Rattle.receiver.proofs.Heading.{Bytes}
-use Rattle.receiver.proofs.Pieced.{turn-as, turn-makes}
+use Rattle.receiver.proofs.Making.{turn-makes}
+use Rattle.receiver.proofs.Promising.{turn-as}
 use Rattle.receiver.proofs.Rest.{afterwards}
 
 -- the settings of an opening

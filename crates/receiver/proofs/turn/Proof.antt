@@ -5,7 +5,7 @@ use native.Mathlib.Omega.{arith}
 use Rattle.receiver.specs.declared.Stage.{Stage}
 use Rattle.receiver.specs.declared.Stage.the-variants.{Due}
 use Rattle.receiver.specs.State.{Staged}
-use Rattle.receiver.proofs.Pieced.{turn-as, turn-at, turn-six}
+use Rattle.receiver.proofs.Promising.{turn-as, turn-at, turn-six}
 use borrow.Author.Needs.{needs}
 use Rattle.receiver.proofs.turn.Statement.{statement}
 use Rattle.receiver.proofs.turn.Tie as tie
