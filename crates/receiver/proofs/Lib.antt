@@ -31,6 +31,7 @@ pub mod Ending
 pub mod Bounds
 pub mod Called
 pub mod Remaining
+pub mod Brought
 pub mod Listening
 pub mod Flow
 pub mod Packets

@@ -88,11 +88,11 @@ behind-in o at len n b e = by (eqb o 2047) (leb len (o + 4)) (ltb (o + 4) at) re
     by false false false h k e = let q : o + 4 - at ≡ n = cc in omega (arith, leb-false len (o + 4) h, ltb-false (o + 4) at k)
 
 module _ (r : Receiver) (o at : ℕ) (tp : List ℕ) (l : Lent r at tp) where
-  abbrev placed : Place → Start wire
+  abbrev pub placed : Place → Start wire
   placed Outside = dropped wire 10 (drop at tp)
   placed (Behind n) = start wire (frameOf (r .walk .phase)) n (drop at tp)
 
-  outset-at : outset wire (frameOf (r .walk .phase)) o (at - 4) (drop at tp) ≡ placed (placeOf o at (length tp))
+  pub outset-at : outset wire (frameOf (r .walk .phase)) o (at - 4) (drop at tp) ≡ placed (placeOf o at (length tp))
   unfolding outset placeOf
   outset-at = by (eqb o 2047) (leb (length tp) (o + 4)) (ltb (o + 4) at) refl refl refl
     where

@@ -28,14 +28,14 @@ use Rattle.receiver.specs.Forecast as F
 
 -- what the forecast decides
 
-by-off : (p : F.Phase) (o : Option ℕ) (f : Frame wire) (n : ℕ) (bs : List ℕ) → seen p o ≡ Off → set-out wire p f n bs ≡ resume wire [] n bs
+pub by-off : (p : F.Phase) (o : Option ℕ) (f : Frame wire) (n : ℕ) (bs : List ℕ) → seen p o ≡ Off → set-out wire p f n bs ≡ resume wire [] n bs
 by-off off o f n bs e = refl
 by-off between none f n bs e = cc
 by-off between (some k) f n bs e = cc
 by-off inside none f n bs e = cc
 by-off inside (some k) f n bs e = cc
 
-by-bad : (p : F.Phase) (o : Option ℕ) (f : Frame wire) (n : ℕ) (bs : List ℕ) → foretold wire f bs ≡ o → seen p o ≡ Bad
+pub by-bad : (p : F.Phase) (o : Option ℕ) (f : Frame wire) (n : ℕ) (bs : List ℕ) → foretold wire f bs ≡ o → seen p o ≡ Bad
     → set-out wire p f n bs ≡ resume wire (lose 12 ∷ []) n bs
 by-bad off o f n bs q e = cc
 by-bad between none f n bs q e = ap (λ (o : Option ℕ). judge wire o f n bs) q
@@ -43,7 +43,7 @@ by-bad between (some k) f n bs q e = cc
 by-bad inside none f n bs q e = ap (λ (o : Option ℕ). judge wire o f n bs) q
 by-bad inside (some k) f n bs q e = cc
 
-by-at : (k : ℕ) (p : F.Phase) (o : Option ℕ) (f : Frame wire) (n : ℕ) (bs : List ℕ) → foretold wire f bs ≡ o → seen p o ≡ At k
+pub by-at : (k : ℕ) (p : F.Phase) (o : Option ℕ) (f : Frame wire) (n : ℕ) (bs : List ℕ) → foretold wire f bs ≡ o → seen p o ≡ At k
     → set-out wire p f n bs ≡ agree wire (eqb k n) f n bs
 by-at k off o f n bs q e = cc
 by-at k between none f n bs q e = cc
@@ -61,7 +61,7 @@ upon-none : (l : List ℕ) → length l ≡ 0 → upon wire l ≡ lost
 upon-none [] p = refl
 upon-none (b ∷ bs) p = absurd (omega arith)
 
-upon-frame : (at n : ℕ) (tp : List ℕ) → frameOf (uponOf (at + n) (length tp)) ≡ upon wire (drop n (drop at tp))
+pub upon-frame : (at n : ℕ) (tp : List ℕ) → frameOf (uponOf (at + n) (length tp)) ≡ upon wire (drop n (drop at tp))
 unfolding uponOf
 upon-frame at n tp = by (ltb (at + n) (length tp)) refl
   where
@@ -69,7 +69,7 @@ upon-frame at n tp = by (ltb (at + n) (length tp)) refl
     by true q = let u = ltb-true (at + n) (length tp) q in sym (upon-some (drop n (drop at tp)) (omega (arith, length-drop n (drop at tp), length-drop at tp)))
     by false q = let u = ltb-false (at + n) (length tp) q in sym (upon-none (drop n (drop at tp)) (omega (arith, length-drop n (drop at tp), length-drop at tp)))
 
-upon-todo : (at len : ℕ) → todoOf (uponOf at len) ≡ []
+pub upon-todo : (at len : ℕ) → todoOf (uponOf at len) ≡ []
 unfolding uponOf
 upon-todo at len = by (ltb at len)
   where
@@ -92,7 +92,7 @@ roomy cap (Judged h) k f = f
 roomy cap (Body h n) Empty f = f
 roomy cap (Body h n) (Of c l) f = omega arith
 
-settled-todo : (p : Phase) → Settled p → todoOf p ≡ []
+pub settled-todo : (p : Phase) → Settled p → todoOf p ≡ []
 settled-todo Lost s = refl
 settled-todo (Head n w) s = refl
 settled-todo (Judged h) s = absurd (omega arith)
