@@ -32,6 +32,7 @@ pub mod Bounds
 pub mod Called
 pub mod Remaining
 pub mod Brought
+pub mod OwnBytes
 pub mod Listening
 pub mod Flow
 pub mod Packets
