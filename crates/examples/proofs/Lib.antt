@@ -1,2 +1,3 @@
 pub mod Sixth
 pub mod Checked
+pub mod Contract

@@ -18,11 +18,11 @@ use Rattle.receiver.specs.Low.{llep, lowPart, sized, walk}
 use Rattle.receiver.specs.Tp.{heard}
 use Rattle.examples.specs.Examples.{sixth, read}
 
-first-word : tpNumberIn 0x809958 ≡ some 0x809
+pub first-word : tpNumberIn 0x809958 ≡ some 0x809
 unfolding tpNumberIn Decodes codeWord distance weight chosen onesIn
 first-word = let d : Decodes 0x809958 (Word 0x809 0) = (lit< tt, refl, lit≤ tt) in number-is 0x809958 (Word 0x809 0) d
 
-second-word : tpNumberIn 0x004A97 ≡ some 0x004
+pub second-word : tpNumberIn 0x004A97 ≡ some 0x004
 unfolding tpNumberIn Decodes codeWord distance weight chosen onesIn
 second-word = let d : Decodes 0x004A97 (Word 0x004 0) = (lit< tt, refl, lit≤ tt) in number-is 0x004A97 (Word 0x004 0) d
 
@@ -33,21 +33,21 @@ header-is w a b d e =
     ap (λ (o : Option ℕ). headerFrom o (numberOf (reading (w % 2 ^ 24)))) (number-is (w / 2 ^ 24 % 2 ^ 24) (Word a 0) d)
     ∙ ap (λ (o : Option ℕ). headerFrom (some a) o) (number-is (w % 2 ^ 24) (Word b 0) e)
 
-low-header : headerIn 0x040D9900293E ≡ some (record { content = 1; fragment = 0; size = 2 })
+pub low-header : headerIn 0x040D9900293E ≡ some (record { content = 1; fragment = 0; size = 2 })
 unfolding Decodes codeWord distance weight chosen onesIn
 low-header =
     let d : Decodes 0x040D99 (Word 0x040 0) = (lit< tt, refl, lit≤ tt) in
     let e : Decodes 0x00293E (Word 0x002 0) = (lit< tt, refl, lit≤ tt) in
     header-is 0x040D9900293E 0x040 0x002 d e
 
-cut-header : headerIn 0x1007B40018EB ≡ some (record { content = 4; fragment = 0; size = 1 })
+pub cut-header : headerIn 0x1007B40018EB ≡ some (record { content = 4; fragment = 0; size = 1 })
 unfolding Decodes codeWord distance weight chosen onesIn
 cut-header =
     let d : Decodes 0x1007B4 (Word 0x100 0) = (lit< tt, refl, lit≤ tt) in
     let e : Decodes 0x0018EB (Word 0x001 0) = (lit< tt, refl, lit≤ tt) in
     header-is 0x1007B40018EB 0x100 0x001 d e
 
-fill-header : headerIn 0x00000000293E ≡ some (record { content = 0; fragment = 0; size = 2 })
+pub fill-header : headerIn 0x00000000293E ≡ some (record { content = 0; fragment = 0; size = 2 })
 unfolding Decodes codeWord distance weight chosen onesIn
 fill-header =
     let d : Decodes 0x000000 (Word 0x000 0) = (lit< tt, refl, lit≤ tt) in
