@@ -8,7 +8,7 @@
 
 #include "golay.h"
 
-/* Numbers given back; the notices are 6 to 16. */
+/* Numbers given back; the notices are 6 to 16 and 21. */
 enum {
     C7_DONE = 0,
     C7_BAD_SETTING = 1,
@@ -26,7 +26,8 @@ enum {
     C7_OTHER_OFFSET = 13,
     C7_SERIES_BROKEN = 14,
     C7_ROOM_FULL = 15,
-    C7_NOT_READABLE = 16
+    C7_NOT_READABLE = 16,
+    C7_OFFSET_IN_LOW = 21
 };
 
 enum {

@@ -147,21 +147,31 @@ static bool foretell(const c7_receiver *receiver, const uint8_t *payload, size_t
     return true;
 }
 
-/* 10, then 12 for a cut header, then 13. */
+/* An offset that no payload with this low-latency part can have: 10 or 21. */
+static unsigned offset_fault(const c7_receiver *receiver)
+{
+    if (receiver->offset == C7_NO_START)
+        return C7_DONE;
+    if (receiver->offset >= payload_length(receiver))
+        return C7_BAD_OFFSET;
+    return receiver->offset < receiver->at ? C7_OFFSET_IN_LOW : C7_DONE;
+}
+
+/* 10 or 21, then 12 for a cut header, then 13. */
 static c7_find judge_offset(c7_receiver *receiver, const uint8_t *payload)
 {
-    size_t offset = receiver->offset, start;
-    unsigned number = C7_DONE;
+    unsigned number = offset_fault(receiver);
+    size_t start;
 
-    if (offset != C7_NO_START && (offset >= payload_length(receiver) || offset < receiver->at)) {
+    if (number != C7_DONE) {
         lose_step(receiver);
         receiver->tp = C7_TP_DROPPED;
-        return notice(C7_BAD_OFFSET);
+        return notice(number);
     }
     if (receiver->in_step) {
         if (!foretell(receiver, payload, &start))
             number = C7_EP_BEYOND_REPAIR;
-        else if (start != offset)
+        else if (start != receiver->offset)
             number = C7_OTHER_OFFSET;
         if (number == C7_DONE) {
             receiver->tp = C7_TP_ORDINARY;

@@ -8,7 +8,7 @@ typedef enum {
     C7_FIND_NONE,
     C7_FIND_LOW,      /* stretch of the TP */
     C7_FIND_ORDINARY, /* stretch of the room */
-    C7_FIND_NOTICE,   /* number 6 to 16 */
+    C7_FIND_NOTICE,   /* number 6 to 16, or 21 */
     C7_FIND_REFUSED   /* number 1 */
 } c7_find_sort;
 
