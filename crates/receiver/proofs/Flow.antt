@@ -86,7 +86,7 @@ outset-flow : (f : Frame wire) (o n : ℕ) (bs : List ℕ) → Starts f (outset 
 unfolding outset
 outset-flow f o n bs = by (eqb o 2047) (leb (n + length bs) o) (ltb o n)
   where
-    by : (a b c : Bool) → Starts f (cond a (start wire f (length bs) bs) (cond b (dropped wire 10 bs) (cond c (dropped wire 10 bs) (start wire f (o - n) bs))))
+    by : (a b c : Bool) → Starts f (cond a (start wire f (length bs) bs) (cond b (dropped wire 10 bs) (cond c (dropped wire 21 bs) (start wire f (o - n) bs))))
     by true b c = start-flow f (length bs) bs
     by false true c = next-to loses still
     by false false true = next-to loses still

@@ -153,7 +153,7 @@ pub outset-late : (f : Frame wire) (o n : ℕ) (bs : List ℕ) → AllLate (outs
 unfolding outset
 outset-late f o n bs = by (eqb o 2047) (leb (n + length bs) o) (ltb o n)
   where
-    by : (a b c : Bool) → AllLate (cond {A = Start wire} a (start wire f (length bs) bs) (cond b (dropped wire 10 bs) (cond c (dropped wire 10 bs) (start wire f (o - n) bs))) .told)
+    by : (a b c : Bool) → AllLate (cond {A = Start wire} a (start wire f (length bs) bs) (cond b (dropped wire 10 bs) (cond c (dropped wire 21 bs) (start wire f (o - n) bs))) .told)
     by true b c = start-late f (length bs) bs
     by false true c = (omega arith, omega arith)
     by false false true = (omega arith, omega arith)

@@ -162,7 +162,7 @@ module _ (r : Receiver) (tp m : List ℕ) (able : Able r) (whole : length tp ≡
 
     due-made : (p : Place) → placeOf o (r .walk .at) (length tp) ≡ p → MadeBy (dueTurn p r tp) (Due o) (dueCall r o (r .walk .at) tp m) r tp m
     unfolding putOf Leads
-    due-made Outside e = due-outside r o (r .walk .at) tp lent e m full
+    due-made (Outside n) e = due-outside r o (r .walk .at) tp lent n e m full
     due-made (Behind n) e = out-made n (setOutOf (r .walk) n tp) e refl
 
   -- among ordinary bytes

@@ -140,7 +140,7 @@ module _ (r : Receiver) (tp m : List ℕ) where
 
   due-takes : (o : ℕ) (l : Lent r (r .walk .at) tp) (p : Place) → Takes (startBrings (placed r o (r .walk .at) tp l p)) r tp m (dueTurn p r tp) m
   unfolding setOutOf
-  due-takes o l Outside = record { taken = lose 10 ∷ []; frame = refl; told = lost-told 10 (l .settled); held = refl; finds = refl }
+  due-takes o l (Outside n) = record { taken = lose n ∷ []; frame = refl; told = lost-told n (l .settled); held = refl; finds = refl }
   due-takes o l (Behind n) = fore-takes n (l .settled) (foreOf w (drop (r .walk .at) tp)) refl
 
   -- among ordinary bytes
@@ -184,7 +184,7 @@ module _ (r : Receiver) (tp m : List ℕ) (able : Able r) (bytes : Bytes tp) (fu
 
   due-put : (p : Place) → putOf (dueTurn p r tp .piece) tp m ≡ m
   unfolding putOf
-  due-put Outside = refl
+  due-put (Outside n) = refl
   due-put (Behind n) = by (setOutOf (r .walk) n tp)
     where
       by : (s : O.Start) → putOf (outTurn s r n (length tp) .piece) tp m ≡ m

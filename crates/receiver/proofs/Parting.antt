@@ -81,7 +81,7 @@ unfolding placeOf
 behind-in o at len n b e = by (eqb o 2047) (leb len (o + 4)) (ltb (o + 4) at) refl refl e
   where
     by : (x y z : Bool) → leb len (o + 4) ≡ y → ltb (o + 4) at ≡ z
-        → cond x (Behind (len - at)) (cond y Outside (cond z Outside (Behind (o + 4 - at)))) ≡ Behind n → at + n ≤ len
+        → cond x (Behind (len - at)) (cond y (Outside 10) (cond z (Outside 21) (Behind (o + 4 - at)))) ≡ Behind n → at + n ≤ len
     by true y z h k e = let q : len - at ≡ n = cc in omega arith
     by false true z h k e = let q : _≡_ {A = ℕ} 0 1 = cc in absurd (omega arith)
     by false false true h k e = let q : _≡_ {A = ℕ} 0 1 = cc in absurd (omega arith)
@@ -89,7 +89,7 @@ behind-in o at len n b e = by (eqb o 2047) (leb len (o + 4)) (ltb (o + 4) at) re
 
 module _ (r : Receiver) (o at : ℕ) (tp : List ℕ) (l : Lent r at tp) where
   abbrev pub placed : Place → Start wire
-  placed Outside = dropped wire 10 (drop at tp)
+  placed (Outside n) = dropped wire n (drop at tp)
   placed (Behind n) = start wire (frameOf (r .walk .phase)) n (drop at tp)
 
   pub outset-at : outset wire (frameOf (r .walk .phase)) o (at - 4) (drop at tp) ≡ placed (placeOf o at (length tp))
@@ -104,7 +104,7 @@ module _ (r : Receiver) (o at : ℕ) (tp : List ℕ) (l : Lent r at tp) where
 
       by : (x y z : Bool) → eqb o 2047 ≡ x → leb (length tp) (o + 4) ≡ y → ltb (o + 4) at ≡ z
           → outset wire (frameOf (r .walk .phase)) o (at - 4) (drop at tp)
-          ≡ placed (cond x (Behind (length tp - at)) (cond y Outside (cond z Outside (Behind (o + 4 - at)))))
+          ≡ placed (cond x (Behind (length tp - at)) (cond y (Outside 10) (cond z (Outside 21) (Behind (o + 4 - at)))))
       by true y z e h k = rw e (ap (λ (n : ℕ). start wire (frameOf (r .walk .phase)) n (drop at tp)) (length-drop at tp))
       by false true z e h k =
           let v : at - 4 + length (drop at tp) ≤ o = omega (arith, length-drop at tp, leb-true (length tp) (o + 4) h, b, d) in
@@ -125,8 +125,9 @@ module _ (r : Receiver) (o at : ℕ) (tp : List ℕ) (l : Lent r at tp) where
   due-by q p e g =
       leads-by (dueCall r o at tp) (startCall r at (placed p) tp) r tp q (λ m. ap (λ (t : Start wire). startCall r at t tp m) (sym (outset-at ∙ ap placed e))) g
 
-  pub due-outside : placeOf o at (length tp) ≡ Outside → Leads (dueCall r o at tp) r tp (C.Gives (stepOf r Plain (length tp) Lost Empty (F.Notice 10)))
-  due-outside e = due-by _ Outside e (drop-leads r at tp 10 (l .size) (l .whole) (lent-in r at tp l))
+  pub due-outside : (n : ℕ) → placeOf o at (length tp) ≡ Outside n
+      → Leads (dueCall r o at tp) r tp (C.Gives (stepOf r Plain (length tp) Lost Empty (F.Notice n)))
+  due-outside n e = due-by _ (Outside n) e (drop-leads r at tp n (l .size) (l .whole) (lent-in r at tp l))
 
   pub due-behind : (q : Course) (n : ℕ) → placeOf o at (length tp) ≡ Behind n → Leads (setCall r at n tp) r tp q → Leads (dueCall r o at tp) r tp q
   due-behind q n e g = due-by q (Behind n) e g

@@ -73,7 +73,7 @@ module _ (r : Receiver) (tp : List ℕ) (able : Able r) (whole : length tp ≡ r
 
   due-in : (o : ℕ) (p : Place) → placeOf o (r .walk .at) (length tp) ≡ p → Within (dueTurn p r tp .piece) (length tp) (r .limit)
   unfolding setOutOf
-  due-in o Outside e = record { from = here; to = omega arith; fits = omega arith }
+  due-in o (Outside n) e = record { from = here; to = omega arith; fits = omega arith }
   due-in o (Behind n) e = out-in n (foreOf (r .walk .phase) (drop (r .walk .at) tp)) (behind-in o (r .walk .at) (length tp) n here e)
 
   turned-in : (t : Turn) (m m′ : List ℕ) → Carries (r .limit) (r .walk) tp m t m′ → walkOf t .at ≤ length tp
@@ -137,7 +137,7 @@ module _ (r : Receiver) (tp : List ℕ) (able : Able r) (whole : length tp ≡ r
   out-near o n (S.Loses i) = sure (ltb 9 i) _ _ (omega (arith, plain-near (record { at = r .walk .at + n; phase = uponOf (r .walk .at + n) (length tp); kept = Empty })))
 
   due-near : (o : ℕ) (p : Place) → NearBy (Due o) (dueTurn p r tp)
-  due-near o Outside = omega arith
+  due-near o (Outside n) = sure (ltb 9 n) _ _ (omega arith)
   due-near o (Behind n) = out-near o n (setOutOf (r .walk) n tp)
 
   tell-near : (t : Turn) → LessBy (gainOf t) (toil (length tp) (walkOf t)) (toil (length tp) (r .walk)) → NearBy Plain (ordinaryTurn t r)

@@ -63,7 +63,7 @@ module _ (r : Receiver) where
   out-lasts (S.Loses i) n len = kept _ _
 
   due-lasts : (p : Place) (tp : List ℕ) → Lasts r (dueTurn p r tp .receiver)
-  due-lasts Outside tp = kept _ _
+  due-lasts (Outside n) tp = kept _ _
   due-lasts (Behind n) tp = out-lasts (setOutOf (r .walk) n tp) n (length tp)
 
   tell-lasts : (g : Gain) (w : Walk) → Lasts r (tellOf g r w .receiver)

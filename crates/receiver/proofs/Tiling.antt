@@ -157,7 +157,7 @@ module _ (r : Receiver) (len : ℕ) where
       by (Packet c n) l = on-to refl not-plain refl
 
 due-tiles : (r : Receiver) (tp : List ℕ) (p : Place) → Tiles (r .walk .at) (length tp) r (dueTurn p r tp)
-due-tiles r tp Outside = on-to refl not-plain refl
+due-tiles r tp (Outside n) = on-to refl not-plain refl
 due-tiles r tp (Behind n) = out-tiles r (length tp) (setOutOf (r .walk) n tp) n
 
 stage-tiles : (r : Receiver) (tp : List ℕ) (g : Stage) → r .walk .at ≤ length tp → Tiles (standsBy g (r .walk)) (length tp) r (stageTurn g r tp)

@@ -1,4 +1,4 @@
--- How a TP's ordinary bytes are set about: the forecast against the offset (document 01, "Receiver", and 10, 12, 13).
+-- How a TP's ordinary bytes are set about: the forecast against the offset (document 01, "Receiver", and 10, 12, 13; R-6).
 -- The offset is one number: how many ordinary bytes stand before the first EP that begins here, all of them if none does.
 -- Assumes nothing.
 use Prim.Native.Nat.{ℕ, zero, suc, _+_, _-_}
@@ -74,9 +74,9 @@ module _ (C : Code) where
   dropped n bs = record { told = lose n ∷ []; frame = lost; past = length bs }
 
   -- the bytes behind a low-latency part of so many bytes, at an offset that counts it
-  -- 10: "offset not 2047 and either ≥ P or before the low-latency part's end"
+  -- 10: "an offset that is not 2047 and is at least P"; 21: one "before the low-latency part's end"
   unfoldable pub outset : Frame C → ℕ → ℕ → List (C .B) → Start
   outset f offset gone bs =
       cond (eqb offset 2047) (start f (length bs) bs)
       (cond (leb (gone + length bs) offset) (dropped 10 bs)
-      (cond (ltb offset gone) (dropped 10 bs) (start f (offset - gone) bs)))
+      (cond (ltb offset gone) (dropped 21 bs) (start f (offset - gone) bs)))

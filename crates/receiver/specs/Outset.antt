@@ -1,4 +1,4 @@
--- HOW A TP'S ORDINARY BYTES ARE SET ABOUT, by value: 10; the forecast against the offset, 12 and 13 (`Forecast`).
+-- HOW A TP'S ORDINARY BYTES ARE SET ABOUT, by value: 10, 21; the forecast against the offset, 12 and 13 (`Forecast`).
 -- Assumes nothing.
 use Prim.Native.Nat.{ℕ, _+_, _-_}
 use mathlib.Core.Bool.{cond}
@@ -19,12 +19,12 @@ use Rattle.receiver.specs.Forecast as F
 use Rattle.receiver.specs.Low.{wire}
 use Rattle.receiver.specs.State.{frameOf}
 
--- 10: "offset not 2047 and either ≥ P or before the low-latency part's end"; the payload begins at place 4
+-- 10: "an offset that is not 2047 and is at least P"; 21: one "before the low-latency part's end". The payload begins at place 4
 unfoldable pub placeOf : ℕ → ℕ → ℕ → Place
 placeOf offset at len =
     cond (eqb offset 2047) (Behind (len - at))
-    (cond (leb len (offset + 4)) Outside
-    (cond (ltb (offset + 4) at) Outside (Behind (offset + 4 - at))))
+    (cond (leb len (offset + 4)) (Outside 10)
+    (cond (ltb (offset + 4) at) (Outside 21) (Behind (offset + 4 - at))))
 
 -- the forecast; out of step there is none
 abbrev pub foretells : Option ℕ → Fore

@@ -86,7 +86,7 @@ topTurn Elsewhere r len = sameTurn r 8
 topTurn (Dropped n) r len = gaveOf (stepOf r Fresh 0 Lost Empty (F.Notice n)) (pieceOf 4 len R.Passed)
 topTurn (Says low o) r len = wentOf r (cond low (Low o) (Due o)) 4 (r .walk .phase) (r .walk .kept) (pieceOf 4 4 R.Passed) T.More
 
--- 10, 11: the rest is dropped
+-- 10, 11, 21: the rest is dropped
 abbrev pub dropTurn : Receiver → ℕ → Role → ℕ → Turned
 dropTurn r len role n = gaveOf (stepOf r Plain len Lost Empty (F.Notice n)) (pieceOf (r .walk .at) len role)
 
@@ -104,7 +104,7 @@ outTurn (Loses i) r n len =
     gaveOf (stepOf r Plain (r .walk .at + n) (uponOf (r .walk .at + n) len) Empty (F.Notice i)) (pieceOf (r .walk .at) (r .walk .at + n) R.Passed)
 
 abbrev pub dueTurn : Place → Receiver → List ℕ → Turned
-dueTurn Outside r tp = dropTurn r (length tp) R.Passed 10
+dueTurn (Outside n) r tp = dropTurn r (length tp) R.Passed n
 dueTurn (Behind n) r tp = outTurn (setOutOf (r .walk) n tp) r n (length tp)
 
 -- AMONG ORDINARY BYTES: what a turn gained; none ends the TP

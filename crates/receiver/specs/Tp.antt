@@ -60,6 +60,7 @@ worded (some w) f payload =
     behind (lowPartIf (leb 2048 w) payload .finds) (lowPartIf (leb 2048 w) payload .behind) f (w % 2048) payload
 
 -- "For each TP: the checks of 6, 8, 7, 9 in this order; the low-latency part; the offset (10); then ordinary bytes."
+-- (21: "in 10's place in the order")
 unfoldable pub heard : Setting → Frame wire → List ℕ → Heard
 heard s f tp =
     cond (eqb (length tp) (s .size))

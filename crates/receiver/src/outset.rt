@@ -1,4 +1,4 @@
-// How a TP's ordinary bytes are set about: the offset (10), the forecast, 12 on a header begun earlier, 13.
+// How a TP's ordinary bytes are set about: the offset (10, 21), the forecast, 12 on a header begun earlier, 13.
 ghost use mathlib.Core.Path.{_≡_};
 ghost use Prim.Native.Nat.{_+_, _≤_, _<_, _^_, min};
 ghost use lib.ListN.{length, drop};
@@ -18,9 +18,9 @@ pub enum Fore {
     At(usize),
 }
 
-// Where the first EP that begins here stands: not among the bytes from here on, or behind so many of them.
+// Where the first EP that begins here stands: not among the bytes from here on, by this notice, or behind so many of them.
 pub enum Place {
-    Outside,
+    Outside(u8),
     Behind(usize),
 }
 
@@ -74,7 +74,7 @@ fn forecast(tp: &[u8], at: usize, phase: Phase) -> Fore
     }
 }
 
-// 10 if the offset points outside the bytes behind the low-latency part.
+// 10 if the offset points past the payload, 21 if before the low-latency part's end.
 pub fn place_of(offset: usize, at: usize, len: usize) -> Place
     requires { ⌜ (offset < 2048) × (at ≤ len) ⌝ }
     ensures { λ q. ⌜ q ≡ placeOf offset at len ⌝ }
@@ -83,10 +83,10 @@ pub fn place_of(offset: usize, at: usize, len: usize) -> Place
         return Place::Behind(len - at);
     }
     if len <= offset + 4 {
-        return Place::Outside;
+        return Place::Outside(10);
     }
     if offset + 4 < at {
-        return Place::Outside;
+        return Place::Outside(21);
     }
     Place::Behind(offset + 4 - at)
 }

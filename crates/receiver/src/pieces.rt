@@ -174,7 +174,7 @@ pub fn due(r: Receiver, offset: usize, tp: &[u8]) -> Turned
     let w = r.walk;
     let at = w.at;
     match outset::place_of(offset, at, tp.len()) {
-        Place::Outside => drop_rest(r, tp.len(), Role::Passed, 10),
+        Place::Outside(number) => drop_rest(r, tp.len(), Role::Passed, number),
         Place::Behind(n) => set_about(r, n, tp),
     }
 }

@@ -104,7 +104,7 @@ fn due(r: Receiver, offset: usize, at: usize, tp: &[u8]) -> Course
     ensures { λ q. ⌜ Leads (dueCall r offset at (now (tp .entry))) r (now (tp .entry)) q ⌝ }
 {
     match outset::place_of(offset, at, tp.len()) {
-        Place::Outside => drop_rest(r, tp.len(), 10),
+        Place::Outside(number) => drop_rest(r, tp.len(), number),
         Place::Behind(n) => set_about(r, at, n, tp),
     }
 }

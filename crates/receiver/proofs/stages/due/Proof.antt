@@ -1,4 +1,4 @@
--- `receiver::stages::due` meets its contract: 10 drops the rest; else the ordinary bytes are set about.
+-- `receiver::stages::due` meets its contract: 10 and 21 drop the rest; else the ordinary bytes are set about.
 -- Assumes nothing.
 use mathlib.Core.Path.{sym, _∙_}
 use Prim.Native.Nat.{_≤_}
@@ -19,8 +19,8 @@ place-of-requires c κs =
     let d : a .at ≤ length (a .tp .now) = omega arith in
     (s .pre .0, d)
 
-enum-told : tie.Need-enum-told
-enum-told c = search needs
+enum-known-number : tie.Need-enum-known-number
+enum-known-number c = search needs
 
 drop-rest-requires : tie.Need-drop-rest-requires
 drop-rest-requires c κs = search needs
@@ -41,11 +41,11 @@ set-about-requires c κs =
 
 returns : tie.Need-returns
 returns c =
-    let s = c .before .before .before .before .before in
+    let s = c .before .before .before .before .before .before in
     let a = s .args in
     let l = s .pre .1 in
-    let e = sym (c .before .before .before .place-of .ensures) ∙ c .before .enum-told .given .1 in
-    rw (c .drop-rest .ensures) (due-outside (a .r) (a .offset) (a .at) (a .tp .now) l e)
+    let e = sym (c .before .before .before .before .place-of .ensures) ∙ c .before .before .number .given .1 in
+    rw (c .drop-rest .ensures) (due-outside (a .r) (a .offset) (a .at) (a .tp .now) l _ e)
 
 returns-2 : tie.Need-returns-2
 returns-2 c =
@@ -60,7 +60,7 @@ due-spec =
     tie.close
     (tie.spec
     place-of-requires
-    enum-told
+    enum-known-number
     drop-rest-requires
     enum-known-n
     set-about-requires
