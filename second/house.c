@@ -4,9 +4,9 @@
 
 static const uint8_t mark[2] = {0xC7, 0x07};
 
-house_input house_open(FILE *stream, unsigned kinds)
+house_input house_open(FILE *file, unsigned kinds)
 {
-    return (house_input){.stream = stream, .kinds = kinds};
+    return (house_input){.file = file, .kinds = kinds};
 }
 
 /* The first thing wrong with a record's header, NULL if nothing is. */
@@ -42,7 +42,7 @@ static bool stop(house_input *input, const char *wrong)
 static bool read_record(house_input *input, house_record *record, unsigned kinds)
 {
     uint8_t head[HOUSE_HEADER];
-    size_t got = fread(head, 1, sizeof head, input->stream);
+    size_t got = fread(head, 1, sizeof head, input->file);
 
     input->at = input->next;
     if (got == 0)
@@ -56,7 +56,7 @@ static bool read_record(house_input *input, house_record *record, unsigned kinds
 
     if (wrong != NULL)
         return stop(input, wrong);
-    if (length > 0 && fread(record->data, 1, length, input->stream) < length)
+    if (length > 0 && fread(record->data, 1, length, input->file) < length)
         return stop(input, "the input ends inside the data");
     record->kind = head[2];
     record->content = head[3];
@@ -73,8 +73,8 @@ bool house_read_setup(house_input *input, house_record *record, house_setup *set
         return false;
     setup->tp_length = (size_t)data[0] << 8 | data[1];
     setup->stream = data[2];
-    setup->fragment = (size_t)data[3] << 8 | data[4];
-    if (!c7_tp_settings_ok(setup->tp_length, setup->stream) || setup->fragment < C7_FRAGMENT_MIN)
+    setup->piece = (size_t)data[3] << 8 | data[4];
+    if (!c7_tp_settings_ok(setup->tp_length, setup->stream) || setup->piece < C7_PIECE_MIN)
         return stop(input, "a setting is outside its limits");
     return true;
 }
@@ -84,13 +84,13 @@ bool house_read(house_input *input, house_record *record)
     return read_record(input, record, input->kinds);
 }
 
-bool house_write(FILE *stream, uint8_t kind, const uint8_t *data, size_t length)
+bool house_write(FILE *file, uint8_t kind, const uint8_t *data, size_t length)
 {
     uint8_t head[HOUSE_HEADER] = {
         mark[0], mark[1], kind, 0,
         (uint8_t)(length >> 24), (uint8_t)(length >> 16), (uint8_t)(length >> 8), (uint8_t)length,
     };
 
-    return fwrite(head, 1, sizeof head, stream) == sizeof head &&
-           fwrite(data, 1, length, stream) == length;
+    return fwrite(head, 1, sizeof head, file) == sizeof head &&
+           fwrite(data, 1, length, file) == length;
 }

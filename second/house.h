@@ -28,19 +28,19 @@ typedef struct {
 typedef struct {
     size_t tp_length;
     unsigned stream;
-    size_t fragment;
+    size_t piece; /* F, the most data bytes of an ordinary EP */
 } house_setup;
 
-/* A stream of records; the kinds allowed after the setup are bits of a mask. */
+/* A file of records; the kinds allowed after the setup are bits of a mask. */
 typedef struct {
-    FILE *stream;
+    FILE *file;
     unsigned kinds;
     unsigned long long at;   /* of the record read last */
     unsigned long long next; /* of the record to come */
     const char *wrong;       /* what stopped the reading, if anything did */
 } house_input;
 
-house_input house_open(FILE *stream, unsigned kinds);
+house_input house_open(FILE *file, unsigned kinds);
 
 /* The setup that must come first; false at the end or at what stops the reading. */
 bool house_read_setup(house_input *input, house_record *record, house_setup *setup);
@@ -48,7 +48,7 @@ bool house_read_setup(house_input *input, house_record *record, house_setup *set
 /* A record after the setup; false at the end or at what stops the reading. */
 bool house_read(house_input *input, house_record *record);
 
-/* Writes a record with content 0; false if the stream takes no more. */
-bool house_write(FILE *stream, uint8_t kind, const uint8_t *data, size_t length);
+/* Writes a record with content 0; false if the file takes no more. */
+bool house_write(FILE *file, uint8_t kind, const uint8_t *data, size_t length);
 
 #endif

@@ -11,7 +11,7 @@
 #include "receiver.h"
 #include "sender.h"
 
-enum { STREAM = 5, FRAGMENT = 65535, DRAWS = 65, SAMPLED = 512, QUEUE = 2 * C7_SP_MAX };
+enum { STREAM = 5, PIECE = 65535, DRAWS = 65, SAMPLED = 512, QUEUE = 2 * C7_SP_MAX };
 
 static uint64_t digest_sampled(uint64_t digest, const uint8_t *bytes, size_t length)
 {
@@ -27,7 +27,7 @@ static void send_packets(const uint8_t *packet, unsigned count)
     c7_sender sender;
     uint64_t digest = 0;
 
-    c7_sender_open(&sender, C7_TP_MAX, STREAM, FRAGMENT, QUEUE, sizeof low_bytes);
+    c7_sender_open(&sender, C7_TP_MAX, STREAM, PIECE, QUEUE, sizeof low_bytes);
     for (unsigned i = 0; i < count; i++) {
         c7_offer_ordinary(&sender, ordinary, low, C7_CONTENT_MIN, packet, C7_SP_MAX);
         for (int j = 0; j < DRAWS; j++) {

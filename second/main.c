@@ -7,7 +7,7 @@
 #include <stdlib.h>
 #include <string.h>
 
-enum { PROGRAM_BUFFER = 32768, STREAM_BUFFER = 1 << 20 };
+enum { PROGRAM_BUFFER = 32768, FILE_BUFFER = 1 << 20 };
 
 /* Static, so cleared at start. */
 static uint8_t ordinary_queue[PROGRAM_BUFFER];
@@ -21,7 +21,7 @@ static int finish(const char *program, const house_input *input)
         fprintf(stderr, "%s: cannot write\n", program);
         return EXIT_FAILURE;
     }
-    if (ferror(input->stream)) {
+    if (ferror(input->file)) {
         fprintf(stderr, "%s: cannot read\n", program);
         return EXIT_FAILURE;
     }
@@ -59,7 +59,7 @@ int command_send(void)
     c7_sender sender;
 
     if (house_read_setup(&input, &record, &setup) &&
-        c7_sender_open(&sender, setup.tp_length, setup.stream, setup.fragment,
+        c7_sender_open(&sender, setup.tp_length, setup.stream, setup.piece,
                        sizeof ordinary_queue, sizeof low_queue) == C7_DONE &&
         house_write(stdout, HOUSE_SETUP, record.data, record.length))
         while (house_read(&input, &record) && send_one(&sender))
@@ -129,7 +129,7 @@ int main(int count, char **words)
         {"words", command_words},
         {"longest", command_longest},
     };
-    static char in_buffer[STREAM_BUFFER], out_buffer[STREAM_BUFFER];
+    static char in_buffer[FILE_BUFFER], out_buffer[FILE_BUFFER];
 
     golay_init();
     setvbuf(stdin, in_buffer, _IOFBF, sizeof in_buffer);

@@ -46,8 +46,8 @@ def examples_of_words(run):
 
 
 def drawn(run, records, lines):
-    stream = run("send", b"".join(map(records.encode_line, lines)))
-    return [part[8:] for part in records.split(stream)[0][1:]]
+    output = run("send", b"".join(map(records.encode_line, lines)))
+    return [part[8:] for part in records.split(output)[0][1:]]
 
 
 def examples_of_sending(run, records):
@@ -65,10 +65,10 @@ def examples_of_sending(run, records):
 
 
 def example_listed(run, records):
-    stream = hexed("C7 07 00 00 00000005 00 10 00 FF FF")
+    data = hexed("C7 07 00 00 00000005 00 10 00 FF FF")
     for tp in ("00 80 99 58 04 0D 99 00 29 3E 11 22 00 10 07 B4", "00 00 4A 97 00 18 EB 33 00 00 00 00 29 3E AA AA"):
-        stream += records.record(records.TP, 0, hexed(tp))
-    same("example 6, listed", run("list", stream), b"tp what content bytes\n1 low 1 2\n2 ordinary 4 1\n")
+        data += records.record(records.TP, 0, hexed(tp))
+    same("example 6, listed", run("list", data), b"tp what content bytes\n1 low 1 2\n2 ordinary 4 1\n")
 
 
 def examples_of_calls(run):
@@ -120,8 +120,8 @@ def sent(records, sender, piece):
                     [records.record(records.TP, 0, tp) for tp in sender.tps])
 
 
-def words_and_back(records, stream):
-    same("tools/records, there and back", b"".join(map(records.encode_line, records.lines_of(stream))), stream)
+def words_and_back(records, data):
+    same("tools/records, there and back", b"".join(map(records.encode_line, records.lines_of(data))), data)
 
 
 # ---- round trips under damage, listening from every transport packet on ----

@@ -57,16 +57,16 @@ static bool content_ok(unsigned content)
     return content >= C7_CONTENT_MIN && content <= C7_CONTENT_MAX;
 }
 
-int c7_sender_open(c7_sender *sender, size_t tp_length, unsigned stream, size_t fragment,
+int c7_sender_open(c7_sender *sender, size_t tp_length, unsigned stream, size_t piece,
                    size_t ordinary_length, size_t low_length)
 {
-    if (!c7_tp_settings_ok(tp_length, stream) || fragment < C7_FRAGMENT_MIN ||
-        fragment > C7_FRAGMENT_MAX || ordinary_length > C7_QUEUE_MAX || low_length > C7_QUEUE_MAX)
+    if (!c7_tp_settings_ok(tp_length, stream) || piece < C7_PIECE_MIN ||
+        piece > C7_PIECE_MAX || ordinary_length > C7_QUEUE_MAX || low_length > C7_QUEUE_MAX)
         return C7_BAD_SETTING;
     golay_init();
     *sender = (c7_sender){
         .tp_length = tp_length,
-        .fragment = fragment,
+        .piece = piece,
         .ordinary = {.length = ordinary_length},
         .low = {.length = low_length},
         .stream = (uint8_t)stream,
@@ -98,7 +98,7 @@ int c7_offer_ordinary(c7_sender *sender, c7_buffer ordinary, c7_buffer low, unsi
         return C7_TOO_LONG;
 
     /* An SP without bytes is one EP too. */
-    size_t pieces = sp_length == 0 ? 1 : (sp_length - 1) / sender->fragment + 1;
+    size_t pieces = sp_length == 0 ? 1 : (sp_length - 1) / sender->piece + 1;
 
     if (sp_length + pieces * C7_EP_HEADER > queue->length - queue->queued)
         return C7_QUEUE_FULL;
@@ -107,8 +107,8 @@ int c7_offer_ordinary(c7_sender *sender, c7_buffer ordinary, c7_buffer low, unsi
         return C7_DONE;
     }
     for (size_t i = 0; i < pieces; i++) {
-        size_t from = i * sender->fragment;
-        size_t length = c7_smaller(sender->fragment, sp_length - from);
+        size_t from = i * sender->piece;
+        size_t length = c7_smaller(sender->piece, sp_length - from);
         unsigned fragment = i == 0 ? C7_FIRST : i == pieces - 1 ? C7_LAST : C7_MIDDLE;
 
         add_ep(queue, ordinary.at, content, fragment, sp + from, length);

@@ -19,7 +19,7 @@ typedef struct {
 
 typedef struct {
     size_t tp_length; /* 0: not opened */
-    size_t fragment;
+    size_t piece; /* F, the most data bytes of an ordinary EP */
     c7_queue ordinary;
     c7_queue low;
     size_t ep_left; /* queued bytes of the ordinary EP that has begun to leave */
@@ -28,7 +28,7 @@ typedef struct {
 } c7_sender;
 
 /* C7_DONE or C7_BAD_SETTING, which leaves *sender as it was. */
-int c7_sender_open(c7_sender *sender, size_t tp_length, unsigned stream, size_t fragment,
+int c7_sender_open(c7_sender *sender, size_t tp_length, unsigned stream, size_t piece,
                    size_t ordinary_length, size_t low_length);
 
 /* C7_DONE or 1 to 4; only C7_DONE changes anything. */
