@@ -4,6 +4,7 @@
 
 int command_send(void);
 int command_list(void);
+int command_read(void);
 int command_calls(void);
 int command_vectors(void);
 int command_words(void);

@@ -84,10 +84,10 @@ bool house_read(house_input *input, house_record *record)
     return read_record(input, record, input->kinds);
 }
 
-bool house_write(FILE *file, uint8_t kind, const uint8_t *data, size_t length)
+bool house_write(FILE *file, uint8_t kind, uint8_t content, const uint8_t *data, size_t length)
 {
     uint8_t head[HOUSE_HEADER] = {
-        mark[0], mark[1], kind, 0,
+        mark[0], mark[1], kind, content,
         (uint8_t)(length >> 24), (uint8_t)(length >> 16), (uint8_t)(length >> 8), (uint8_t)length,
     };
 

@@ -48,7 +48,7 @@ bool house_read_setup(house_input *input, house_record *record, house_setup *set
 /* A record after the setup; false at the end or at what stops the reading. */
 bool house_read(house_input *input, house_record *record);
 
-/* Writes a record with content 0; false if the file takes no more. */
-bool house_write(FILE *file, uint8_t kind, const uint8_t *data, size_t length);
+/* Writes a record; false if the file takes no more. */
+bool house_write(FILE *file, uint8_t kind, uint8_t content, const uint8_t *data, size_t length);
 
 #endif

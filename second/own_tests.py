@@ -64,11 +64,21 @@ def examples_of_sending(run, records):
     same("example 8", [tp[1] >> 7 for tp in first], [1, 0])
 
 
-def example_listed(run, records):
+def example_recording(records):
     data = hexed("C7 07 00 00 00000005 00 10 00 FF FF")
     for tp in ("00 80 99 58 04 0D 99 00 29 3E 11 22 00 10 07 B4", "00 00 4A 97 00 18 EB 33 00 00 00 00 29 3E AA AA"):
         data += records.record(records.TP, 0, hexed(tp))
-    same("example 6, listed", run("list", data), b"tp what content bytes\n1 low 1 2\n2 ordinary 4 1\n")
+    return data
+
+
+def example_listed(run, records):
+    listed = run("list", example_recording(records))
+    same("example 6, listed", listed, b"tp what content bytes\n1 low 1 2\n2 ordinary 4 1\n")
+
+
+def example_read(run, records):
+    wanted = hexed("C707 00 00 00000005 00 10 00 FF FF  C707 02 01 00000002 11 22  C707 01 04 00000001 33")
+    same("example 6, read", run("read", example_recording(records)), wanted)
 
 
 def examples_of_calls(run):
@@ -118,6 +128,17 @@ def small_cases(run, records, one_by_one):
 def sent(records, sender, piece):
     return b"".join([records.setup(sender.tp_length, sender.stream, piece)] +
                     [records.record(records.TP, 0, tp) for tp in sender.tps])
+
+
+def packet_records(records, packets):
+    kinds = {"ordinary": records.ORDINARY, "low": records.LOW}
+    return b"".join(records.record(kinds[sort], content, data) for _, sort, content, data in packets)
+
+
+def read_out(records, sender, piece):
+    """Demand 3 without damage, in bytes: what was accepted and drawn, each packet with its content and data."""
+    setup = records.setup(sender.tp_length, sender.stream, piece)
+    return setup + packet_records(records, downlink.expected(sender, sender.tps, 0))
 
 
 def words_and_back(records, data):
@@ -179,14 +200,22 @@ def round_trip_by_calls(run, what, sender, tps, starts):
         check_finds(what, start, finds, wanted)
 
 
-def round_trip_by_list(run, records, what, sender, tps, starts):
+def all_starts(records, sender, tps, starts):
     """The programs start afresh after a gap, so one recording holds all starts."""
-    stretch, first = [], []
-    for start in starts:
-        first.append(sum(tp is not None for tp in stretch))
-        stretch += [None] + tps[start:]
-    parts = recording(records, sender.tp_length, stretch, sender.stream)
-    lines = listing(run, parts)
+    stretch = [tp for start in starts for tp in [None] + tps[start:]]
+    return recording(records, sender.tp_length, stretch, sender.stream)
+
+
+def round_trip_by_read(run, records, what, sender, tps, starts):
+    """Demand 3 in bytes, and nothing else comes out."""
+    parts = all_starts(records, sender, tps, starts)
+    wanted = [packet_records(records, downlink.expected(sender, tps, start)) for start in starts]
+    same(what + ", read", run("read", b"".join(parts)), b"".join(parts[:1] + wanted))
+
+
+def round_trip_by_list(run, records, what, sender, tps, starts):
+    first = [sum(len(tps) - start for start in starts[:index]) for index in range(len(starts))]
+    lines = listing(run, all_starts(records, sender, tps, starts))
     same(what + ", header line", lines[0], HEADER)
     by_start = [[] for _ in starts]
     for line in lines[1:]:
@@ -198,7 +227,6 @@ def round_trip_by_list(run, records, what, sender, tps, starts):
         wanted = [(number - start, [sort, str(content), str(len(data))])
                   for number, sort, content, data in downlink.expected(sender, tps, start)]
         check_finds(what, start, finds, wanted)
-    return parts
 
 
 def round_trips(rng, count):

@@ -1,0 +1,151 @@
+/* The programs: sending, listing, and reading packets out. */
+#include "commands.h"
+#include "house.h"
+#include "receiver.h"
+#include "sender.h"
+
+#include <stdlib.h>
+
+enum { PROGRAM_BUFFER = 32768 };
+
+/* Static, so cleared at start. */
+static uint8_t ordinary_queue[PROGRAM_BUFFER];
+static uint8_t low_queue[PROGRAM_BUFFER];
+static uint8_t room[PROGRAM_BUFFER];
+static house_record record;
+
+static int finish(const char *program, const house_input *input)
+{
+    if (fflush(stdout) != 0 || ferror(stdout)) {
+        fprintf(stderr, "%s: cannot write\n", program);
+        return EXIT_FAILURE;
+    }
+    if (ferror(input->file)) {
+        fprintf(stderr, "%s: cannot read\n", program);
+        return EXIT_FAILURE;
+    }
+    if (input->wrong != NULL)
+        fprintf(stderr, "%s: record at byte %llu: %s\n", program, input->at, input->wrong);
+    return EXIT_SUCCESS;
+}
+
+/* The setup as read, which begins whatever is made of records. */
+static bool write_setup(void)
+{
+    return house_write(stdout, HOUSE_SETUP, 0, record.data, record.length);
+}
+
+static bool send_one(c7_sender *sender)
+{
+    static uint8_t tp[C7_TP_MAX];
+    const c7_buffer ordinary = {ordinary_queue, sizeof ordinary_queue};
+    const c7_buffer low = {low_queue, sizeof low_queue};
+
+    /* A refused offer is skipped, so its number is of no use here. */
+    switch (record.kind) {
+    case HOUSE_ORDINARY:
+        c7_offer_ordinary(sender, ordinary, low, record.content, record.data, record.length);
+        return true;
+    case HOUSE_LOW:
+        c7_offer_low(sender, ordinary, low, record.content, record.data, record.length);
+        return true;
+    default:
+        if (c7_draw(sender, ordinary, low, tp, sender->tp_length) != C7_DONE)
+            return true;
+        return house_write(stdout, HOUSE_TP, 0, tp, sender->tp_length);
+    }
+}
+
+int command_send(void)
+{
+    house_input input =
+        house_open(stdin, 1u << HOUSE_ORDINARY | 1u << HOUSE_LOW | 1u << HOUSE_DRAW);
+    house_setup setup;
+    c7_sender sender;
+
+    if (house_read_setup(&input, &record, &setup) &&
+        c7_sender_open(&sender, setup.tp_length, setup.stream, setup.piece,
+                       sizeof ordinary_queue, sizeof low_queue) == C7_DONE &&
+        write_setup())
+        while (house_read(&input, &record) && send_one(&sender))
+            ;
+    return finish("c7send", &input);
+}
+
+/* A TP of these notices is over, or was never begun, without a none. */
+static bool ends_tp(c7_find find)
+{
+    return find.sort == C7_FIND_REFUSED ||
+           (find.sort == C7_FIND_NOTICE && find.number <= C7_TP_BEYOND_REPAIR);
+}
+
+/* What a program makes of a find in the TP of this number; false if its output takes no more. */
+typedef bool find_use(unsigned long long tp, c7_find find);
+
+static bool use_finds(c7_receiver *receiver, unsigned long long tp, find_use *use)
+{
+    for (;;) {
+        c7_find find = c7_next(receiver, record.data, record.length, room, sizeof room);
+
+        if (find.sort == C7_FIND_NONE)
+            return true;
+        if (!use(tp, find))
+            return false;
+        if (ends_tp(find))
+            return true;
+    }
+}
+
+/* Reads a recording: `begin` writes what comes before all finds. */
+static int receive(const char *program, bool (*begin)(void), find_use *use)
+{
+    house_input input = house_open(stdin, 1u << HOUSE_TP | 1u << HOUSE_GAP);
+    unsigned long long tps = 0;
+    house_setup setup;
+    c7_receiver receiver;
+
+    if (house_read_setup(&input, &record, &setup) &&
+        c7_receiver_open(&receiver, setup.tp_length, setup.stream, sizeof room) == C7_DONE &&
+        begin())
+        while (house_read(&input, &record)) {
+            if (record.kind == HOUSE_GAP)
+                c7_gap(&receiver);
+            else if (!use_finds(&receiver, ++tps, use))
+                break;
+        }
+    return finish(program, &input);
+}
+
+static bool print_header(void)
+{
+    return puts("tp what content bytes") >= 0;
+}
+
+static bool print_find(unsigned long long tp, c7_find find)
+{
+    const char *sort = find.sort == C7_FIND_LOW        ? "low"
+                       : find.sort == C7_FIND_ORDINARY ? "ordinary"
+                                                       : "notice";
+
+    return printf("%llu %s %u %zu\n", tp, sort, find.number, find.length) >= 0;
+}
+
+int command_list(void)
+{
+    return receive("c7list", print_header, print_find);
+}
+
+/* A packet as the record that offered it; a notice writes nothing. */
+static bool write_packet(unsigned long long tp, c7_find find)
+{
+    const uint8_t *data = c7_stretch(find, record.data, record.length, room, sizeof room);
+    uint8_t kind = find.sort == C7_FIND_LOW ? HOUSE_LOW : HOUSE_ORDINARY;
+
+    (void)tp;
+    return data == NULL || house_write(stdout, kind, (uint8_t)find.number, data, find.length);
+}
+
+int command_read(void)
+{
+    return receive("c7read", write_setup, write_packet);
+}
