@@ -70,7 +70,7 @@ bool house_read_setup(house_input *input, house_record *record, house_setup *set
     const uint8_t *data = record->data;
 
     if (!read_record(input, record, 1u << HOUSE_SETUP))
-        return false;
+        return input->wrong != NULL ? false : stop(input, "no setup record");
     setup->tp_length = (size_t)data[0] << 8 | data[1];
     setup->stream = data[2];
     setup->piece = (size_t)data[3] << 8 | data[4];

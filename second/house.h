@@ -42,7 +42,7 @@ typedef struct {
 
 house_input house_open(FILE *file, unsigned kinds);
 
-/* The setup that must come first; false at the end or at what stops the reading. */
+/* The setup that must come first; false at what stops the reading, be it the end. */
 bool house_read_setup(house_input *input, house_record *record, house_setup *setup);
 
 /* A record after the setup; false at the end or at what stops the reading. */

@@ -67,22 +67,23 @@ def send_steps(rng, tp_length, piece):
 
 
 def send_recording(rng, records, count=None):
-    """Good records, and the sender that they make."""
+    """Good records, the sender that they make, and (byte, number) of each refused offer."""
     tp_length, stream, piece = settings(rng)
     sender = packer.Sender(tp_length, stream, piece, PROGRAM_BUFFER, PROGRAM_BUFFER)
-    good = [records.setup(tp_length, stream, piece)]
+    good, refused = [records.setup(tp_length, stream, piece)], []
     for step in send_steps(rng, tp_length, piece):
         if step is None:
             sender.draw()
             good.append(records.record(records.DRAW))
         else:
             sort, content, data = step
-            sender.offer(sort, content, data)
+            number = sender.offer(sort, content, data)
+            refused += [(sum(map(len, good)), number)] if number else []
             kind = records.LOW if sort == "low" else records.ORDINARY
             good.append(records.record(kind, content, data))
         if count is not None and len(good) >= count:
             break
-    return good, sender
+    return good, sender, refused
 
 
 # ---- records that stop a program ----

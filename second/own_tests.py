@@ -1,5 +1,7 @@
 """Tests of the second program by itself: document 01's examples, the appendix's tables, small cases,
 the packer's reading of the sender, and round trips under damage."""
+import os
+
 import cases
 import downlink
 import inputs
@@ -101,6 +103,17 @@ def examples_of_calls(run):
     low = digest((packer.ep(1, 0, b"d" * 5) + bytes(64))[:64])
     wanted += ["sender 0 0 0", "low 0 0 %d" % low, "low 3 0 %d" % low]
     same("examples 5 and 8", run("calls", b"".join(entries)).decode().splitlines(), wanted)
+
+
+def failures_told(run, command, name):
+    """Each in one line of the program's own: an input without a record, and one that can't be read."""
+    def told(**given):
+        return [(line.startswith(name + ": "), "no setup record" in line) for line in run.complaint(command, **given)]
+    same(name + ", no input", told(input=b""), [(True, True)])
+    folder = os.open(os.path.dirname(os.path.abspath(__file__)), os.O_RDONLY)
+    same(name + ", a directory as input", told(stdin=folder), [(True, False)])
+    os.close(folder)
+    same(name + ", a closed input", [own for own, _ in told(preexec_fn=lambda: os.close(0))], [True])
 
 
 # ---- the cases, the packer, tools/records ----

@@ -14,19 +14,18 @@ static uint8_t low_queue[PROGRAM_BUFFER];
 static uint8_t room[PROGRAM_BUFFER];
 static house_record record;
 
+/* Says in one line why the program could not go on, if it could not. */
 static int finish(const char *program, const house_input *input)
 {
-    if (fflush(stdout) != 0 || ferror(stdout)) {
+    if (fflush(stdout) != 0 || ferror(stdout))
         fprintf(stderr, "%s: cannot write\n", program);
-        return EXIT_FAILURE;
-    }
-    if (ferror(input->file)) {
+    else if (ferror(input->file))
         fprintf(stderr, "%s: cannot read\n", program);
-        return EXIT_FAILURE;
-    }
-    if (input->wrong != NULL)
+    else if (input->wrong != NULL)
         fprintf(stderr, "%s: record at byte %llu: %s\n", program, input->at, input->wrong);
-    return EXIT_SUCCESS;
+    else
+        return EXIT_SUCCESS;
+    return EXIT_FAILURE;
 }
 
 /* The setup as read, which begins whatever is made of records. */
@@ -35,25 +34,23 @@ static bool write_setup(void)
     return house_write(stdout, HOUSE_SETUP, 0, record.data, record.length);
 }
 
-static bool send_one(c7_sender *sender)
+/* The number given back for the record; a drawn TP is written. */
+static int send_one(c7_sender *sender)
 {
     static uint8_t tp[C7_TP_MAX];
     const c7_buffer ordinary = {ordinary_queue, sizeof ordinary_queue};
     const c7_buffer low = {low_queue, sizeof low_queue};
 
-    /* A refused offer is skipped, so its number is of no use here. */
-    switch (record.kind) {
-    case HOUSE_ORDINARY:
-        c7_offer_ordinary(sender, ordinary, low, record.content, record.data, record.length);
-        return true;
-    case HOUSE_LOW:
-        c7_offer_low(sender, ordinary, low, record.content, record.data, record.length);
-        return true;
-    default:
-        if (c7_draw(sender, ordinary, low, tp, sender->tp_length) != C7_DONE)
-            return true;
-        return house_write(stdout, HOUSE_TP, 0, tp, sender->tp_length);
-    }
+    if (record.kind == HOUSE_ORDINARY)
+        return c7_offer_ordinary(sender, ordinary, low, record.content, record.data, record.length);
+    if (record.kind == HOUSE_LOW)
+        return c7_offer_low(sender, ordinary, low, record.content, record.data, record.length);
+
+    int number = c7_draw(sender, ordinary, low, tp, sender->tp_length);
+
+    if (number == C7_DONE)
+        house_write(stdout, HOUSE_TP, 0, tp, sender->tp_length);
+    return number;
 }
 
 int command_send(void)
@@ -67,8 +64,12 @@ int command_send(void)
         c7_sender_open(&sender, setup.tp_length, setup.stream, setup.piece,
                        sizeof ordinary_queue, sizeof low_queue) == C7_DONE &&
         write_setup())
-        while (house_read(&input, &record) && send_one(&sender))
-            ;
+        while (!ferror(stdout) && house_read(&input, &record)) {
+            int number = send_one(&sender);
+
+            if (number != C7_DONE)
+                fprintf(stderr, "c7send: record at byte %llu: refused %d\n", input.at, number);
+        }
     return finish("c7send", &input);
 }
 
