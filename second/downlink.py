@@ -1,5 +1,6 @@
-"""What must come out of a receiver that listens from the k-th transport packet on, under damage
-within the limits: exactly the packets that arrived from there on, with the bytes that arrived."""
+"""What must come out of a receiver under damage within the limits, where transport packets may be missing and
+each place where some are is told as a gap: exactly the packets of which nothing is missing, with the bytes that
+arrived."""
 
 
 def flip(tps, places, bits):
@@ -27,11 +28,36 @@ def damaged(rng, sender):
     return [bytes(one) for one in tps]
 
 
-def expected(sender, tps, start):
+def losses(rng, count):
+    """The numbers of the TPs that arrive: single ones missing, whole runs, both, or none."""
+    rate, run = rng.choice(((0, 1), (0.02, 1), (0.1, 1), (0.3, 1), (0.02, 20), (0.1, 5)))
+    missing = set()
+    for number in range(count):
+        if rng.random() < rate:
+            missing.update(range(number, number + rng.randint(1, run)))
+    return [number for number in range(count) if number not in missing]
+
+
+def with_gaps(tps, arrived):
+    """The TPs that arrived, and None at each place where some are missing, be it the start or the end."""
+    out, next_one = [], 0
+    for number in arrived:
+        out += [tps[number]] if number == next_one else [None, tps[number]]
+        next_one = number + 1
+    return out if next_one == len(tps) else out + [None]
+
+
+def missing(packet, arrived):
+    """The TPs from a drawn packet's first byte to its last that did not arrive."""
+    return [number for number in range(packet.begun_in(), packet.ended_in() + 1) if number not in arrived]
+
+
+def expected(sender, tps, arrived):
     """(TP number from 0, sort, content, bytes) of each packet, in the order of reading."""
+    arrived = set(arrived)
     finds = []
     for order, packet in enumerate(sender.packets):
-        if not packet.drawn() or packet.begun_in() < start:
+        if not packet.drawn() or missing(packet, arrived):
             continue
         data = bytes(tps[number][byte] for number, byte in packet.data_places())
         key = (packet.ended_in(), packet.sort == "ordinary", order)

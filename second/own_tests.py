@@ -151,7 +151,7 @@ def packet_records(records, packets):
 def read_out(records, sender, piece):
     """Demand 3 without damage, in bytes: what was accepted and drawn, each packet with its content and data."""
     setup = records.setup(sender.tp_length, sender.stream, piece)
-    return setup + packet_records(records, downlink.expected(sender, sender.tps, 0))
+    return setup + packet_records(records, downlink.expected(sender, sender.tps, range(len(sender.tps))))
 
 
 def words_and_back(records, data):
@@ -159,6 +159,10 @@ def words_and_back(records, data):
 
 
 # ---- round trips under damage, listening from every transport packet on ----
+
+def expected_from(sender, tps, start):
+    return downlink.expected(sender, tps, range(start, len(tps)))
+
 
 def round_trip_script(rng, tp_length, stream, piece, space, most):
     sender = packer.Sender(tp_length, stream, piece, space, space)
@@ -209,7 +213,7 @@ def round_trip_by_calls(run, what, sender, tps, starts):
     runs = heard(run("calls", listen_calls(sender, tps, starts)).decode())
     for start, finds in zip(starts, runs, strict=True):
         wanted = [(number - start, [sort, str(content), str(len(data)), str(digest(data))])
-                  for number, sort, content, data in downlink.expected(sender, tps, start)]
+                  for number, sort, content, data in expected_from(sender, tps, start)]
         check_finds(what, start, finds, wanted)
 
 
@@ -222,7 +226,7 @@ def all_starts(records, sender, tps, starts):
 def round_trip_by_read(run, records, what, sender, tps, starts):
     """Demand 3 in bytes, and nothing else comes out."""
     parts = all_starts(records, sender, tps, starts)
-    wanted = [packet_records(records, downlink.expected(sender, tps, start)) for start in starts]
+    wanted = [packet_records(records, expected_from(sender, tps, start)) for start in starts]
     same(what + ", read", run("read", b"".join(parts)), b"".join(parts[:1] + wanted))
 
 
@@ -238,7 +242,7 @@ def round_trip_by_list(run, records, what, sender, tps, starts):
         by_start[index].append((int(number) - 1 - first[index], words))
     for start, finds in zip(starts, by_start, strict=True):
         wanted = [(number - start, [sort, str(content), str(len(data))])
-                  for number, sort, content, data in downlink.expected(sender, tps, start)]
+                  for number, sort, content, data in expected_from(sender, tps, start)]
         check_finds(what, start, finds, wanted)
 
 
@@ -257,3 +261,30 @@ def round_trips(rng, count):
         sender.draw()
     tps = downlink.damaged(rng, sender)
     yield "the longest packets", sender, tps, [0, 1, 65, len(tps) - 1]
+
+
+# ---- transport packets missing (R-13) ----
+
+LACKING = ("nothing", "its first TP", "its last TP", "TPs between")
+
+
+def lacking(packet, arrived):
+    """What a drawn packet lacks, as one of these, or something else."""
+    first, last = packet.begun_in(), packet.ended_in()
+    missing = downlink.missing(packet, arrived)
+    if not missing:
+        return "nothing"
+    if missing in ([first], [last]):
+        return "its first TP" if missing == [first] else "its last TP"
+    return "TPs between" if first not in missing and last not in missing else "several"
+
+
+def lossy(rng, records):
+    """A recording under damage and losses, what must be read out of it, and what each packet lacks."""
+    tp_length, stream, piece = rng.choice((16, 17, 20, 33, 64, 200)), rng.randrange(16), rng.choice((1, 5, 20, 65535))
+    sender = round_trip_script(rng, tp_length, stream, piece, rng.choice((100, 400, 3000)), 150)
+    tps = downlink.damaged(rng, sender)
+    arrived = downlink.losses(rng, len(tps))
+    parts = recording(records, tp_length, downlink.with_gaps(tps, arrived), stream)
+    wanted = parts[0] + packet_records(records, downlink.expected(sender, tps, arrived))
+    return parts, wanted, [lacking(packet, arrived) for packet in sender.packets if packet.drawn()]
