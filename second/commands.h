@@ -5,6 +5,8 @@
 int command_send(void);
 int command_list(void);
 int command_read(void);
+int command_pack(void);
+int command_unpack(void);
 int command_calls(void);
 int command_vectors(void);
 int command_words(void);

@@ -1,4 +1,5 @@
-"""Inputs from a seed: recordings for the two programs, lists of calls, and sections of words."""
+"""Inputs from a seed: scripts and recordings for the programs, lists of calls, and sections of words."""
+import chapter11
 import downlink
 import packer
 from packer import FIRST, LAST, MIDDLE, NO_START, WHOLE
@@ -276,6 +277,56 @@ def list_recording(rng, records):
     good = [records.setup(tp_length, stream, piece)]
     good += [records.record(records.GAP) if tp is None else records.record(records.TP, 0, tp) for tp in stretch]
     return good, maker
+
+
+# ---- Chapter 11 packets in and out ----
+
+SIZES = (0, 0, 1, 2, 5, 30, 100, 1000, 4095, 4096)
+
+
+def pack_script(rng, records):
+    """A script with Chapter 11 packets among other offers, what becomes of it, and (byte, number) of the refusals."""
+    parts = [records.setup(*settings(rng))]
+    packed, refused = parts[:], []
+    for _ in range(100):
+        kind = rng.choice((records.ORDINARY, records.LOW))
+        if rng.random() < 0.3:
+            other = rng.choice((records.record(records.DRAW), records.record(kind, rng.choice((0, 2, 4, 255)), b"any")))
+            parts.append(other)
+            packed.append(other)
+            continue
+        size = rng.choice(SIZES) if rng.random() < 0.97 else 30000
+        packet, answer = rng.choice((chapter11.to_compose, chapter11.not_composed))(rng, size)
+        if isinstance(answer, int):
+            refused.append((sum(map(len, parts)), answer))
+        else:
+            packed.append(records.record(kind, 3, answer))
+        parts.append(records.record(kind, 3, packet))
+    return parts, b"".join(packed), refused
+
+
+def unpack_recording(rng, records):
+    """A recording with source packets of content 3 among others, what comes out, and (byte, number) of the refusals."""
+    tp_length, stream, piece = rng.choice((64, 100, 255, 700, 2051)), rng.randrange(16), rng.choice((50, 1000, 65535))
+    sender = packer.Sender(tp_length, stream, piece, PROGRAM_BUFFER, PROGRAM_BUFFER)
+    answers = {}
+    for _ in range(60):
+        size = rng.choice(SIZES) if rng.random() < 0.97 else 30000
+        sp, answer = rng.choice((chapter11.to_reassemble, chapter11.not_reassembled))(rng, size)
+        answers[sp] = answer
+        sender.offer(rng.choice(("ordinary", "low")), rng.choice((3, 3, 3, 3, 1)), sp)
+        while sender.queue["low"] or len(sender.queue["ordinary"]) > 2:
+            sender.draw()
+    while sender.queue["ordinary"] or sender.current:
+        sender.draw()
+    parts = [records.setup(tp_length, stream, piece)] + [records.record(records.TP, 0, tp) for tp in sender.tps]
+    out, refused = b"", []
+    for number, _, content, sp in downlink.expected(sender, sender.tps, range(len(sender.tps))):
+        if content == 3 and isinstance(answers[sp], int):
+            refused.append((len(parts[0]) + number * len(parts[1]), answers[sp]))
+        elif content == 3:
+            out += answers[sp]
+    return parts, out, refused
 
 
 # ---- lists of calls ----

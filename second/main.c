@@ -17,6 +17,8 @@ int main(int count, char **words)
         {"send", command_send},
         {"list", command_list},
         {"read", command_read},
+        {"pack", command_pack},
+        {"unpack", command_unpack},
         {"calls", command_calls},
         {"vectors", command_vectors},
         {"words", command_words},
@@ -30,6 +32,6 @@ int main(int count, char **words)
     for (size_t i = 0; i < sizeof commands / sizeof *commands; i++)
         if (count == 2 && strcmp(words[1], commands[i].name) == 0)
             return commands[i].run();
-    fprintf(stderr, "usage: c7 send|list|read|calls|vectors|words|longest\n");
+    fprintf(stderr, "usage: c7 send|list|read|pack|unpack|calls|vectors|words|longest\n");
     return EXIT_FAILURE;
 }

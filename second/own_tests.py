@@ -105,6 +105,34 @@ def examples_of_calls(run):
     same("examples 5 and 8", run("calls", b"".join(entries)).decode().splitlines(), wanted)
 
 
+# ---- Chapter 11 packets, worked out by hand: channel 1, one byte of data, fill of 3, 7 and 4 bytes ----
+
+CHAPTER_11 = (
+    ("25EB 0100 1C000000 01000000 00000000 000000000000 43EB 55 000000",
+     "000000 0018EB 18046E 0018EB 00000000 000000000000 43EB 55 000000"),
+    ("25EB 0100 20000000 01000000 00000000 000000000000 47EB 55 00000000000000",
+     "000000 0018EB 18046E 0018EB 00000000 000000000000 43EB 55 000000"),
+    ("25EB 0100 1D000000 01000000 00000000 000000000000 44EB 55 00000000",
+     "000000 0018EB 000000 0018EB 00000000 000000000000 40EB 55"))
+
+
+def chapter11_packed(run, records):
+    setup = records.setup(16, 0, 1)
+    asked, wanted = ([records.record(records.ORDINARY, 3, hexed(pair[side])) for pair in CHAPTER_11] for side in (0, 1))
+    same("Chapter 11 packets, packed", run("pack", b"".join([setup] + asked)), b"".join([setup] + wanted))
+
+
+def chapter11_unpacked(run, records):
+    """The first comes back as it was, the others with less fill, a new length and a new checksum."""
+    sender = packer.Sender(64, 0, 65535, 1000, 1000)
+    for _, sp in CHAPTER_11:
+        sender.offer("ordinary", 3, hexed(sp))
+        sender.draw()
+    first = hexed(CHAPTER_11[0][0])
+    third = hexed("25EB 0100 19000000 01000000 00000000 000000000000 40EB 55")
+    same("Chapter 11 packets, unpacked", run("unpack", sent(records, sender, 65535)), first + first + third)
+
+
 def failures_told(run, command, name):
     """Each in one line of the program's own: an input without a record, and one that can't be read."""
     def told(**given):

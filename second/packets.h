@@ -27,6 +27,8 @@ enum {
     C7_SERIES_BROKEN = 14,
     C7_ROOM_FULL = 15,
     C7_NOT_READABLE = 16,
+    C7_NOT_CHAPTER11 = 17,
+    C7_FILL_NOT_ZERO = 18,
     C7_OFFSET_IN_LOW = 21
 };
 
@@ -57,7 +59,7 @@ enum {
     C7_FILL_DATA = 0xAA
 };
 
-enum { C7_FILL = 0, C7_CONTENT_MIN = 1, C7_CONTENT_MAX = 6 };
+enum { C7_FILL = 0, C7_CHAPTER11 = 3, C7_CONTENT_MIN = 1, C7_CONTENT_MAX = 6 };
 
 enum { C7_COMPLETE = 0, C7_FIRST = 1, C7_MIDDLE = 2, C7_LAST = 3 };
 
