@@ -1,0 +1,71 @@
+"""What the tests share: a tool run on bytes, and the three things that it leaves: status, output, what it said."""
+import collections
+import os
+import subprocess
+import sys
+import unittest
+
+ROOT = os.path.realpath(os.path.join(os.path.dirname(__file__), "..", ".."))
+LIMIT = 120  # seconds for one run
+
+Run = collections.namedtuple("Run", "status out said")
+TOOLS = os.path.join(ROOT, "tools")
+
+
+def run(words, data=b"", **given):
+    if "stdin" not in given:
+        given["input"] = data
+    given.setdefault("stdout", subprocess.PIPE)
+    done = subprocess.run(words, stderr=subprocess.PIPE, timeout=LIMIT, check=False, **given)
+    return Run(done.returncode, done.stdout, done.stderr.decode(errors="replace"))
+
+
+def words_of(name, *words):
+    """How a tool is started; one in Python by this very interpreter, which needs nothing but its standard library."""
+    path = os.path.join(TOOLS, name)
+    with open(path, encoding="utf-8") as file:
+        is_python = "python3" in file.readline()
+    return [*([sys.executable, "-S"] if is_python else []), path, *words]
+
+
+def tool(name, *words, data=b"", **given):
+    return run(words_of(name, *words), data, **given)
+
+
+def records(text):
+    """House records of readable lines."""
+    done = tool("records", data=text.encode())
+    if done.status != 0:
+        raise AssertionError(done.said)
+    return done.out
+
+
+def live(words):
+    """A tool between two pipes."""
+    return subprocess.Popen(words, stdin=subprocess.PIPE, stdout=subprocess.PIPE, stderr=subprocess.DEVNULL, bufsize=0)
+
+
+class Case(unittest.TestCase):
+    def fails(self, done, status, words):
+        """The tool ended so, with one line that has these words."""
+        self.assertEqual(done.status, status, done)
+        self.assertEqual(done.said.count("\n"), 1, done)
+        self.assertIn(words, done.said)
+
+    def works(self, done):
+        self.assertEqual(done.status, 0, done)
+        return done.out
+
+    def passes_on(self, words, pieces):
+        """Each piece of input leads to its piece of output before the next one is given."""
+        with live(words) as running:
+            for given, wanted in pieces:
+                running.stdin.write(given)
+                got = b""
+                while len(got) < len(wanted):
+                    more = running.stdout.read(len(wanted) - len(got))
+                    self.assertTrue(more, "ended after %r" % got)
+                    got += more
+                self.assertEqual(got, wanted)
+            running.stdin.close()
+            self.assertEqual(running.stdout.read(), b"")
