@@ -16,7 +16,7 @@ STREAMS = {
     "wrap --off": (["wrap", "--off"], trial.records(SETUP), trial.records("tp 00*2051\n")),
     "pcap": (["pcap"], trial.records(SETUP), trial.records("low 1 00*2051\n")),
 }
-OTHERS = ["cited", "corrections", "icount", "picture", "run", "tests"]
+OTHERS = ["cited", "corrections", "icount", "picture", "run", "tests", "wrong"]
 SOME = 200  # more than a block of output, and than a pipe holds
 MANY = 20000  # these are more than the memory that a tool gets
 MEMORY = 40 << 20
