@@ -14,12 +14,18 @@ use Rattle.sender.specs.Offering.{later, pieces}
 use Rattle.receiver.specs.declared.kind.Kind.the-variants.{Middle}
 use Rattle.receiver.specs.Low.{wire}
 use Rattle.downlink.specs.Damage.{Item, filler, packet, HeadNear, EpsNear}
-use Rattle.downlink.specs.Demand.{bodies, handed, size}
+use Rattle.downlink.specs.Hearing.{Packet}
+use Rattle.downlink.specs.Due.{bodies, size}
 use Rattle.downlink.proofs.Trains.{Ep, plain, cells, stream}
 use Rattle.downlink.proofs.Items as R
 use Rattle.downlink.proofs.Marks.{Cells, epCells, epsCells}
 use Rattle.downlink.proofs.Loads.{itemCells}
 use Rattle.downlink.proofs.Repair.{headOf, header-reads, kind-fill, kind-complete, kind-first, kind-middle, kind-last}
+
+-- what reading hands out of an item, where these bytes arrived
+abbrev pub handed : Item → List ℕ → List Packet
+handed (filler e) bs = []
+handed (packet c d es) bs = (c, bodies es bs) ∷ []
 
 -- sent marks on the bytes that arrived
 abbrev pub mix : Cells → List ℕ → Cells
@@ -161,15 +167,15 @@ module _ (F room : ℕ) (f₁ : 1 ≤ F) (f₂ : F ≤ 65535) where
         given-is = refl;
       }
 
-  pub packet-arrives : (c : ℕ) (d bs : List ℕ) → 1 ≤ c → c ≤ 6 → length d ≤ room → size (packet c (pieces F c d)) ≤ length bs
-      → EpsNear (pieces F c d) bs → One (packet c (pieces F c d)) bs
+  pub packet-arrives : (c : ℕ) (d bs : List ℕ) → 1 ≤ c → c ≤ 6 → length d ≤ room → size (packet c d (pieces F c d)) ≤ length bs
+      → EpsNear (pieces F c d) bs → One (packet c d (pieces F c d)) bs
   unfolding pieces flatten
   packet-arrives c d bs p q fits len near = go (leb (length d) F) refl len near
     where
       two : Bool → List (List ℕ)
       two b = cond b (ep c 0 d ∷ []) (ep c 1 (take F d) ∷ later (length d) F c (drop F d))
 
-      go : (b : Bool) → leb (length d) F ≡ b → length (flatten (two b)) ≤ length bs → EpsNear (two b) bs → One (packet c (two b)) bs
+      go : (b : Bool) → leb (length d) F ≡ b → length (flatten (two b)) ≤ length bs → EpsNear (two b) bs → One (packet c d (two b)) bs
       go true t len near =
           let short : length d < 65536 = omega (arith, leb-true (length d) F t) in
           let enough : 6 + length d ≤ length bs = omega (arith, length-append (ep c 0 d) [], ep-length c 0 d) in

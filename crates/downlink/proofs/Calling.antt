@@ -11,15 +11,18 @@ use Rattle.receiver.specs.declared.Find.{Find}
 use Rattle.receiver.specs.declared.Find.the-variants as F
 use Rattle.receiver.specs.Join.{Finding, notice, low, ordinary}
 use Rattle.receiver.specs.Low.{wire}
-use Rattle.receiver.specs.Call.{dataOf}
+use Rattle.receiver.specs.declared.Receiver.{Receiver}
+use Rattle.receiver.specs.State.{Able}
+use Rattle.receiver.specs.Call.{dataOf, gapOf}
+use Rattle.receiver.specs.Tp.{Input, tpIn, gapTold}
 use Rattle.receiver.proofs.Ending.{Ended}
 use Rattle.receiver.proofs.Rest.{saying}
 use Rattle.receiver.proofs.Called as C
 use Rattle.receiver.proofs.Listening as N
-use Rattle.downlink.specs.Hearing.{Place, Called, onward, ends, Either, Calls, Hears, Packet, inTp, handedOut}
+use Rattle.downlink.specs.Hearing.{Listener, Called, onward, ends, Either, Calls, toldOfGap, Hears, Packet, inTp, handedOut}
 use Rattle.downlink.specs.Hearing as H
 use Rattle.downlink.proofs.Joins.{packets, packets-append}
-use Rattle.downlink.proofs.Listen.{lowsOf, lows-append, inputs}
+use Rattle.downlink.proofs.Listen.{lowsOf, lows-append}
 
 -- a find, as the definition of a whole TP tells it
 abbrev findingOf : Find → List ℕ → List (Finding wire)
@@ -62,22 +65,25 @@ ordinaries-in tp (c ∷ cs) =
     ap₂ (λ (a b : List Packet). a ++ b) (ordinary-of (c .step .find) d) (ordinaries-in tp cs)
     ∙ sym (packets-append wire (findingOf (c .step .find) d) (findings tp cs))
 
-abbrev pub allFindings : List (List ℕ) → List (List Called) → List (Finding wire)
+abbrev pub allFindings : List Input → List (List Called) → List (Finding wire)
 allFindings [] css = []
-allFindings (tp ∷ tps) [] = []
-allFindings (tp ∷ tps) (cs ∷ css) = findings tp cs ++ allFindings tps css
+allFindings (tpIn tp ∷ xs) [] = []
+allFindings (tpIn tp ∷ xs) (cs ∷ css) = findings tp cs ++ allFindings xs css
+allFindings (gapTold ∷ xs) css = allFindings xs css
 
-pub lows-out : (tps : List (List ℕ)) (css : List (List Called)) → handedOut H.low tps css ≡ lowsOf (allFindings tps css)
+pub lows-out : (xs : List Input) (css : List (List Called)) → handedOut H.low xs css ≡ lowsOf (allFindings xs css)
 lows-out [] css = refl
-lows-out (tp ∷ tps) [] = refl
-lows-out (tp ∷ tps) (cs ∷ css) =
-    ap₂ (λ (a b : List Packet). a ++ b) (lows-in tp cs) (lows-out tps css) ∙ sym (lows-append (findings tp cs) (allFindings tps css))
+lows-out (tpIn tp ∷ xs) [] = refl
+lows-out (tpIn tp ∷ xs) (cs ∷ css) =
+    ap₂ (λ (a b : List Packet). a ++ b) (lows-in tp cs) (lows-out xs css) ∙ sym (lows-append (findings tp cs) (allFindings xs css))
+lows-out (gapTold ∷ xs) css = lows-out xs css
 
-pub ordinaries-out : (tps : List (List ℕ)) (css : List (List Called)) → handedOut H.ordinary tps css ≡ packets wire (allFindings tps css)
+pub ordinaries-out : (xs : List Input) (css : List (List Called)) → handedOut H.ordinary xs css ≡ packets wire (allFindings xs css)
 ordinaries-out [] css = refl
-ordinaries-out (tp ∷ tps) [] = refl
-ordinaries-out (tp ∷ tps) (cs ∷ css) =
-    ap₂ (λ (a b : List Packet). a ++ b) (ordinaries-in tp cs) (ordinaries-out tps css) ∙ sym (packets-append wire (findings tp cs) (allFindings tps css))
+ordinaries-out (tpIn tp ∷ xs) [] = refl
+ordinaries-out (tpIn tp ∷ xs) (cs ∷ css) =
+    ap₂ (λ (a b : List Packet). a ++ b) (ordinaries-in tp cs) (ordinaries-out xs css) ∙ sym (packets-append wire (findings tp cs) (allFindings xs css))
+ordinaries-out (gapTold ∷ xs) css = ordinaries-out xs css
 
 -- ---- the receiver's words for it
 
@@ -110,12 +116,12 @@ not-ended (F.Notice n) e q =
 not-ended (F.Low c start n) e q = omega arith
 not-ended (F.Ordinary c n) e q = omega arith
 
-calls-are : (tp : List ℕ) (cs : List Called) (x : Place) → Calls tp x cs
+calls-are : (tp : List ℕ) (cs : List Called) (x : Listener) → Calls tp x cs
     → C.Calls tp (x .receiver) (x .room) (findings tp cs) (onward x cs .receiver) (onward x cs .room)
 calls-are tp [] x calls = absurd calls
 calls-are tp (c ∷ cs) x (gives, then) = go (ends (c .step .find)) refl then (λ z. calls-are tp cs (record { receiver = c .step .receiver; room = c .room }) z)
   where
-    x′ : Place
+    x′ : Listener
     x′ = record { receiver = c .step .receiver; room = c .room }
 
     d : List ℕ
@@ -135,12 +141,31 @@ calls-are tp (c ∷ cs) x (gives, then) = go (ends (c .step .find)) refl then (�
         subst (λ (fs : List (Finding wire)). C.Calls tp (x .receiver) (x .room) (fs ++ findings tp cs) (onward x′ cs .receiver) (onward x′ cs .room)) said
         (C.more gives (not-ended (c .step .find) e) (ih more))
 
--- all TPs, and where the receiver stands at the end
-pub lives : (tps : List (List ℕ)) (css : List (List Called)) (x : Place) → Hears x tps css
-    → (y : Place) × N.Life (x .receiver) (x .room) (inputs tps) (allFindings tps css) (y .receiver) (y .room)
-lives [] [] x hears = (x, N.over)
-lives [] (cs ∷ css) x hears = absurd hears
-lives (tp ∷ tps) [] x hears = absurd hears
-lives (tp ∷ tps) (cs ∷ css) x hears =
-    let l = lives tps css (onward x cs) (hears .1) in
+-- the receiver can be called again
+able-on : (tp : List ℕ) (cs : List Called) (x : Listener) → Calls tp x cs → Able (onward x cs .receiver)
+able-on tp [] x calls = absurd calls
+able-on tp (c ∷ cs) x (gives, then) = go (ends (c .step .find)) then (λ z. able-on tp cs x′ z)
+  where
+    x′ : Listener
+    x′ = record { receiver = c .step .receiver; room = c .room }
+
+    go : (t : Bool) → Either t (cs ≡ []) (Calls tp x′ cs) → (Calls tp x′ cs → Able (onward x′ cs .receiver)) → Able (onward x′ cs .receiver)
+    go true none ih = subst⁻¹ (λ (ys : List Called). Able (onward x′ ys .receiver)) none (gives .able)
+    go false more ih = ih more
+
+able-told : (r : Receiver) → Able r → Able (gapOf r)
+able-told r a = record { size = a .size; walk = record { at = omega arith; phase = omega arith }; stage = omega arith }
+
+-- all of it, and where the receiver stands at the end
+pub lives : (xs : List Input) (css : List (List Called)) (x : Listener) → Able (x .receiver) → Hears x xs css
+    → (y : Listener) × N.Life (x .receiver) (x .room) xs (allFindings xs css) (y .receiver) (y .room)
+lives [] [] x able hears = (x, N.over)
+lives [] (cs ∷ css) x able hears = absurd hears
+lives (tpIn tp ∷ xs) [] x able hears = absurd hears
+lives (tpIn tp ∷ xs) (cs ∷ css) x able hears =
+    let l = lives xs css (onward x cs) (able-on tp cs x (hears .0)) (hears .1) in
     (l .0, N.tp-on (calls-are tp cs x (hears .0)) (l .1))
+lives (gapTold ∷ xs) css x able hears =
+    let a = able-told (x .receiver) able in
+    let l = lives xs css (toldOfGap x) a hears in
+    (l .0, N.gap-on (refl, a) (l .1))

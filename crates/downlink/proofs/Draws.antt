@@ -186,6 +186,8 @@ module _ (P str F ls os : ℕ) (top : P ≤ 2047) (piece₁ : 1 ≤ F) (piece₂
           flow = ap (λ z. z ++ (t .oc′ ++ t .qc′)) (append-nil (t .own)) ∙ flows;
           items-ok = subst⁻¹ (λ (e : List ℕ). ItemsOk P str F top (fillers e ++ [])) fill-is (fill-ok (lacking r ow Q) lacking-small);
         };
+        short = tt;
+        queued = tt;
       }
 
   made : (let x = took (W .sender) drawn in

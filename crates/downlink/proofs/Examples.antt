@@ -1,11 +1,11 @@
 -- Document 01's example 6 against the statement: what is due. So a receiver that hands out nothing there, one that idles after the
 -- first TP, and one that hands out a packet where none was sent, are shut out. Assumes nothing.
-use mathlib.Core.Path.{_≡_, refl, _∙_}
-use mathlib.Core.Bool.{Bool, true, false, cond, _&&_}
-use mathlib.Core.List.{List, [], _∷_, _++_, flatten}
-use Prim.Native.Nat.{ℕ, _+_}
+use mathlib.Core.Path.{_≡_, refl}
+use mathlib.Core.List.{List, [], _∷_, flatten}
+use Prim.Native.Nat.{ℕ}
 use native.Mathlib.Omega.{arith}
-use lib.ListN.{length, replicate}
+use lib.Dec.{leb}
+use lib.ListN.{replicate}
 use Rattle.golay.specs.Golay.{codeWord, chosen}
 use Rattle.wire.specs.Wire.{word, firstNumber, header, ep, streamByte, offsetNumber, tpHeader}
 use Rattle.queue.specs.Ring.{around, held, longer, written, wrap, off}
@@ -14,10 +14,11 @@ use Rattle.sender.specs.Opening.{fresh}
 use Rattle.sender.specs.Offering.{pieces, spBytes, known, wantOrdinary, ordinaryOffered, wantLow, lowOffered}
 use Rattle.sender.specs.Drawing.{headAt, sizeIn, contentIn, lowIn, lowAt, overwritten, leave, part, fill, lacking, stream, owedAfter, span, under, offset, drawWith, drawOf, drawBy}
 use Rattle.sender.specs.Drawing as D
-use Rattle.sender.specs.Run.{Tp, Call, ordinary, low, draw, World, Deed, took, tookLow, drew, deeds}
-use Rattle.downlink.specs.Damage.{filler, arrived}
+use Rattle.sender.specs.Run.{Tp, Call, ordinary, low, draw, World, Deed, took, tookLow, drew, deeds, tps}
 use Rattle.downlink.specs.Hearing.{Packet}
-use Rattle.downlink.specs.Demand.{size, begunThere, lastDrawn, Right}
+use Rattle.downlink.specs.Due.{lowsOf, ordinariesOf, Right}
+use Rattle.downlink.specs.Demand.{wholeFrom}
+use Rattle.downlink.proofs.Own.{unchanged}
 
 unfoldable pub room : List ℕ
 room = replicate 64 0
@@ -65,38 +66,35 @@ filled = refl
 
 -- ---- what is due
 
-module _ (rest : List ℕ) (lows ordinaries : List Packet) where
+-- a receiver that starts at TP k
+abbrev pub From : ℕ → List Deed → List (List ℕ) → List Packet → List Packet → Type 0
+From k ds got lows ordinaries = Right 65535 ds got (leb k) (wholeFrom k (tps ds)) lows ordinaries
+
+module _ (lows ordinaries : List Packet) where
   -- listened to from the first TP on, undamaged
-  pub all-due : Right 65535 done rest (first ∷ second ∷ []) 0 lows ordinaries
-      → (lows ≡ (1, 0x11 ∷ 0x22 ∷ []) ∷ []) × (ordinaries ≡ (4, 0x33 ∷ []) ∷ [])
+  pub all-due : From 0 done (first ∷ second ∷ []) lows ordinaries → (lows ≡ (1, 0x11 ∷ 0x22 ∷ []) ∷ []) × (ordinaries ≡ (4, 0x33 ∷ []) ∷ [])
   unfolding done first second llep codeWord chosen word firstNumber header ep pieces part flatten
-  all-due r = (r .low, r .ordinary)
+  all-due r =
+      (unchanged (first ∷ second ∷ []) (lowsOf done (leb 0)) lows (r .low), unchanged (first ∷ second ∷ []) (ordinariesOf 65535 done (wholeFrom 0 (tps done))) ordinaries (r .ordinary))
 
   -- from the second on: nothing, since the ordinary packet begins in the first
-  pub late-due : Right 65535 done rest (first ∷ second ∷ []) 1 lows ordinaries → (lows ≡ []) × (ordinaries ≡ [])
+  pub late-due : From 1 done (first ∷ second ∷ []) lows ordinaries → (lows ≡ []) × (ordinaries ≡ [])
   unfolding done first second llep codeWord chosen word firstNumber header ep pieces part flatten
-  late-due r = (r .low, r .ordinary)
+  late-due r =
+      (unchanged (first ∷ second ∷ []) (lowsOf done (leb 1)) lows (r .low), unchanged (first ∷ second ∷ []) (ordinariesOf 65535 done (wholeFrom 1 (tps done))) ordinaries (r .ordinary))
 
 -- ---- who is shut out
 
 -- one that hands out nothing: it gives 9 for everything, or any other fixed notice, or nothing at all
-pub silent : (rest : List ℕ) → Right 65535 done rest (first ∷ second ∷ []) 0 [] [] → ⊥
-silent rest r = let e = all-due rest [] [] r .0 in let z : _≡_ {A = ℕ} 0 1 = cc in omega arith
+pub silent : From 0 done (first ∷ second ∷ []) [] [] → ⊥
+silent r = let e = all-due [] [] r .0 in let z : _≡_ {A = ℕ} 0 1 = cc in omega arith
 
 -- one that reads the first TP and then idles
-pub idle : (rest : List ℕ) → Right 65535 done rest (first ∷ second ∷ []) 0 ((1, 0x11 ∷ 0x22 ∷ []) ∷ []) [] → ⊥
-idle rest r = let e = all-due rest ((1, 0x11 ∷ 0x22 ∷ []) ∷ []) [] r .1 in let z : _≡_ {A = ℕ} 0 1 = cc in omega arith
+pub idle : From 0 done (first ∷ second ∷ []) ((1, 0x11 ∷ 0x22 ∷ []) ∷ []) [] → ⊥
+idle r = let e = all-due ((1, 0x11 ∷ 0x22 ∷ []) ∷ []) [] r .1 in let z : _≡_ {A = ℕ} 0 1 = cc in omega arith
 
 -- one that gives a fixed packet: a TP of fill alone gives none, whatever arrives of it
-pub fixed : (rest r : List ℕ) (p : Packet) (ps os : List Packet)
-    → (Right 65535 (drew blank ∷ []) rest (r ∷ []) 0 (p ∷ ps) os → ⊥) × (Right 65535 (drew blank ∷ []) rest (r ∷ []) 0 os (p ∷ ps) → ⊥)
-unfolding blank
-fixed rest r p ps os =
-    (λ x. let e = x .low in let z : _≡_ {A = ℕ} 0 1 = cc in omega arith, λ x. let e = ordinaries-none x in let z : _≡_ {A = ℕ} 0 1 = cc in omega arith)
-  where
-    go : (t : Bool) → _≡_ {A = List Packet} (cond t [] [] ++ []) []
-    go true = refl
-    go false = refl
-
-    ordinaries-none : Right 65535 (drew blank ∷ []) rest (r ∷ []) 0 os (p ∷ ps) → p ∷ ps ≡ []
-    ordinaries-none x = x .ordinary ∙ go (begunThere 0 0 && lastDrawn (length (arrived (blank ∷ []) (r ∷ []))) (0 + size (filler (blank .fill))))
+pub fixed : (r : List ℕ) (p : Packet) (ps os : List Packet)
+    → (From 0 (drew blank ∷ []) (r ∷ []) (p ∷ ps) os → ⊥) × (From 0 (drew blank ∷ []) (r ∷ []) os (p ∷ ps) → ⊥)
+unfolding blank part flatten
+fixed r p ps os = (λ x. x .low, λ x. x .ordinary)

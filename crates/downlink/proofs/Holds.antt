@@ -19,10 +19,12 @@ use Rattle.receiver.specs.Low.{wire}
 use Rattle.sender.specs.Run.{ordinary, low, World, Deed, refused, took, tookLow, next, deed}
 use Rattle.sender.specs.Run as N
 use Rattle.downlink.specs.Hearing.{Packet}
+use Rattle.downlink.specs.Demand.{Fit}
 use Rattle.downlink.proofs.Window.{bytes, bytes-append}
 use Rattle.downlink.proofs.Marks.{Cells, epsCells, eps-bytes, Plain, Good, good-append, AllSent, good-eps}
 use Rattle.downlink.proofs.Lows.{queue, queue-append, LowsOk, lows-snoc}
 use Rattle.downlink.proofs.Loads.{Flows}
+use Rattle.downlink.proofs.Places.{data-length}
 
 -- ---- an accepted packet's EPs say their lengths
 
@@ -107,6 +109,9 @@ module _ (P str F ls os : ℕ) (top : P ≤ 2047) (piece₁ : 1 ≤ F) (piece₂
     pub pend′ : Cells
     pub holds : Holds w lows′ pend′
     pub flows : Flows P str F top (d ∷ []) lows pend lows′ pend′
+    -- a packet that was accepted has a length that is allowed, and went into its queue
+    pub short : Fit 131072 (d ∷ [])
+    pub queued : Fit os (d ∷ [])
 
   pub unchanged : (w : World) (lows : List Packet) (pend : Cells) → Holds w lows pend → Steps w refused lows pend
   unchanged w lows pend h =
@@ -115,6 +120,8 @@ module _ (P str F ls os : ℕ) (top : P ≤ 2047) (piece₁ : 1 ≤ F) (piece₂
         pend′ = pend;
         holds = h;
         flows = record { loads = []; tps-are = tt; low-flow = sym (append-nil lows); flow = sym (append-nil pend); items-ok = tt };
+        short = tt;
+        queued = tt;
       }
 
   pub lent-is : (l o : Ring) (ow re : ℕ) (lb ob : List ℕ) → length lb ≡ ls → length ob ≡ os → lent (state l o ow re .setting) (length lb) (length ob) ≡ true
@@ -158,6 +165,8 @@ module _ (P str F ls os : ℕ) (top : P ≤ 2047) (piece₁ : 1 ≤ F) (piece₂
                 good = f .good;
               });
           flows = record { loads = []; tps-are = tt; low-flow = refl; flow = sym (append-nil pend); items-ok = tt };
+          short = tt;
+          queued = tt;
         }
 
     low-go : (c : ℕ) (d : List ℕ) (t₁ t₂ t₃ : Bool) → known c ≡ t₁ → ltb P (7 + length d) ≡ t₂ → ltb (ls - l .len) (length (ep c 0 d)) ≡ t₃
@@ -210,8 +219,10 @@ module _ (P str F ls os : ℕ) (top : P ≤ 2047) (piece₁ : 1 ≤ F) (piece₂
             tps-are = tt;
             low-flow = sym (append-nil lows);
             flow = ap (λ z. pend ++ z) (sym (append-nil cs));
-            items-ok = ((d, c₁, c₆, h, refl), tt);
+            items-ok = ((c₁, c₆, refl), tt);
           };
+          short = (omega arith, tt);
+          queued = (omega (arith, data-length F c d), tt);
         }
 
     ordinary-go : (c : ℕ) (d : List ℕ) (t₁ t₂ t₃ : Bool) → known c ≡ t₁ → ltb 131072 (length d) ≡ t₂ → ltb (os - o .len) (length (spBytes F c d)) ≡ t₃

@@ -1,14 +1,14 @@
 -- What was sent is within the limits of what may arrive: the damage that demand 3 allows includes none, for every run. So its premise
 -- asks nothing of the sender. Assumes nothing.
 use Prim.Native.Nat.{ℕ, zero, suc, _+_, _-_, _%_, _≤_}
-use mathlib.Core.Path.{_≡_, refl, sym, ap, ap₂, _∙_, subst⁻¹}
+use mathlib.Core.Path.{_≡_, refl, sym, ap, _∙_, subst⁻¹}
 use mathlib.Core.Bool.{Bool, true, false, cond}
 use mathlib.Core.List.{List, [], _∷_, _++_, append-assoc, append-nil, flatten}
 use native.Mathlib.Omega.{arith}
 use lib.Bits.{xor-self}
 use lib.Count.{onesIn}
 use lib.ListN.{length, take, drop, replicate, length-append, length-drop, length-replicate}
-use lib.Seq.{take-at, take-append-le, drop-append-le, drop-at, drop-drop, getD-at}
+use lib.Seq.{take-at, take-append-le, drop-append-le, drop-at, getD-at}
 use Rattle.digits.specs.Digits.{number}
 use Rattle.golay.specs.Golay.{weight, distance, byteDistance}
 use Rattle.wire.specs.Wire.{word, firstNumber, ep, offsetNumber, tpHeader}
@@ -18,7 +18,7 @@ use Rattle.sender.specs.Opening.{opened}
 use Rattle.sender.specs.Drawing.{some, part, offset}
 use Rattle.receiver.specs.Low.{wire}
 use Rattle.sender.specs.Run.{Call, World, Tp, tps, deeds, left, undrawn}
-use Rattle.downlink.specs.Damage.{Item, filler, packet, items, eps, allEps, arrived, Bytes, Near, NearEnd, HeadNear, EpsNear, LlepsNear, TpNear, TpsNear, Damaged}
+use Rattle.downlink.specs.Damage.{Item, filler, packet, items, eps, allEps, drawn, ordinaryOf, Bytes, Near, NearEnd, HeadNear, EpsNear, LlepsNear, TpNear, TpsNear, Damaged}
 use Rattle.downlink.specs.Hearing.{Packet}
 use Rattle.downlink.proofs.Window.{bytes, before}
 use Rattle.downlink.proofs.Marks.{AllSent}
@@ -27,7 +27,7 @@ use Rattle.downlink.proofs.Loads.{Load, TpIs, TpsAre, ItemOk, ItemsOk}
 use Rattle.downlink.proofs.Holds.{pieces-sent}
 use Rattle.downlink.proofs.Repair.{first-word, second-word}
 use Rattle.downlink.proofs.Runs.{run, limits, start}
-use Rattle.downlink.proofs.Laws.{sent, ordinary-law}
+use Rattle.downlink.proofs.Laws.{ordinary-law}
 
 -- ---- words and end bytes
 
@@ -98,7 +98,7 @@ module _ (P str F : ℕ) (top : P ≤ 2047) where
     abbrev payload : List ℕ
     payload = part (lleps (l .now)) ++ bytes wire (l .own)
 
-    payload-is : drop 4 (t .bytes) ≡ payload
+    pub payload-is : drop 4 (t .bytes) ≡ payload
     payload-is = ap (drop 4) (is .bytes-are) ∙ drop-at (tpHeader str (some (lleps (l .now))) o) payload 4 (tp-header-length str (some (lleps (l .now))) o)
 
     word-is : take 3 (drop 1 (t .bytes)) ≡ word (offsetNumber (some (lleps (l .now))) o)
@@ -113,7 +113,7 @@ module _ (P str F : ℕ) (top : P ≤ 2047) where
       subst⁻¹ (λ (es : List (List ℕ)). LlepsNear es (drop 4 (t .bytes))) (is .lleps-are) (subst⁻¹ (LlepsNear (lleps (l .now))) payload-is (lleps-near (l .now) (bytes wire (l .own)))),
     )
 
-  tps-near : (ts : List Tp) (ls : List Load) → TpsAre P str F top ts ls → TpsNear ts (sent ts)
+  tps-near : (ts : List Tp) (ls : List Load) → TpsAre P str F top ts ls → TpsNear ts (drawn ts)
   tps-near [] [] is = tt
   tps-near [] (l ∷ ls) is = absurd is
   tps-near (t ∷ ts) [] is = absurd is
@@ -132,7 +132,7 @@ module _ (P str F : ℕ) (top : P ≤ 2047) where
     item-sent (filler e) (n, small, is) =
         let l : length (replicate {A = ℕ} n 0xAA) ≡ n = length-replicate n 0xAA in
         (record { content = 0; flag = 0; load = replicate n 0xAA; is = is; known = omega arith; flagged = omega arith; short = omega arith }, tt)
-    item-sent (packet c es) (d, c₁, c₆, small, is) = subst⁻¹ AllSent is (pieces-sent F c d (omega arith) f₁ f₂)
+    item-sent (packet c d es) (c₁, c₆, is) = subst⁻¹ AllSent is (pieces-sent F c d (omega arith) f₁ f₂)
 
     items-sent : (is : List Item) → ItemsOk P str F top is → AllSent (allEps is)
     unfolding AllSent
@@ -141,7 +141,7 @@ module _ (P str F : ℕ) (top : P ≤ 2047) where
 
 -- NO DAMAGE is within the limits, whatever the calls
 pub undamaged : (size stream F : ℕ) (w : World) → opened size stream F (length (w .low)) (length (w .ordinary)) ≡ Done (w .sender)
-    → (cs : List Call) → Damaged (tps (deeds w cs)) (allEps (items F (deeds w cs))) (undrawn (left w cs)) (sent (tps (deeds w cs)))
+    → (cs : List Call) → Damaged (tps (deeds w cs)) (allEps (items F (deeds w cs))) (undrawn (left w cs)) (drawn (tps (deeds w cs)))
 undamaged size stream F w is-open cs =
     let lim = limits size stream F (w .low) (w .ordinary) (w .sender) is-open in
     let size₂ : size ≤ 2051 = lim .1 in
@@ -150,7 +150,7 @@ undamaged size stream F w is-open cs =
     let ran = run P stream F (length (w .low)) (length (w .ordinary)) top (lim .3) (lim .4) w cs [] [] (start size stream F (w .low) (w .ordinary) (w .sender) is-open top (lim .3) (lim .4)) in
     let fl = ran .flows in
     let is : List Item = items F (deeds w cs) in
-    let all-is : arrived (tps (deeds w cs)) (sent (tps (deeds w cs))) ++ undrawn (left w cs) ≡ flatten (allEps is) ++ [] =
+    let all-is : ordinaryOf (tps (deeds w cs)) (drawn (tps (deeds w cs))) ++ undrawn (left w cs) ≡ flatten (allEps is) ++ [] =
     ordinary-law size stream F w is-open cs ∙ sym (append-nil (flatten (allEps is))) in
     record {
       tps = tps-near P stream F top (tps (deeds w cs)) (fl .loads) (fl .tps-are);

@@ -11,7 +11,6 @@ use borrow.Author.Tests.{eq-eqb}
 use Rattle.queue.specs.Ring.{held}
 use Rattle.wire.specs.Wire.{tpHeader}
 use Rattle.wire.proofs.Laws.{tp-header-length}
-use Rattle.sender.specs.declared.Sender.{Sender}
 use Rattle.sender.specs.declared.Answer.the-variants.{Done}
 use Rattle.sender.specs.Opening.{opened}
 use Rattle.sender.specs.Drawing as D
@@ -19,8 +18,8 @@ use Rattle.sender.specs.Drawing.{overwritten, leave, some, part, offset}
 use Rattle.sender.specs.Run.{Call, draw, World, Tp, drew, leaving, deed, deeds, left, undrawn, tps}
 use Rattle.receiver.specs.Low.{wire}
 use Rattle.downlink.specs.Hearing.{Packet}
-use Rattle.downlink.specs.Damage.{Item, eps, allEps, items, arrived}
-use Rattle.downlink.specs.Demand.{lowsTaken}
+use Rattle.downlink.specs.Damage.{Item, eps, allEps, items, drawn, ordinaryOf}
+use Rattle.downlink.specs.Due.{lowsTaken}
 use Rattle.downlink.proofs.Window.{bytes, before, bytes-append}
 use Rattle.downlink.proofs.Marks.{Cells, epsCells, eps-bytes, bytes-length}
 use Rattle.downlink.proofs.Lows.{llep, lleps, queue, LowOk, goes, not-overwritten}
@@ -28,11 +27,7 @@ use Rattle.downlink.proofs.Loads.{Load, nows, owns, itemsCells, TpIs, T
 use Rattle.downlink.proofs.Holds.{lent-is}
 use Rattle.downlink.proofs.Runs.{Ran, run, left-bytes, limits, start}
 
--- the TPs' bytes as they are sent, and the LLEPs in them
-abbrev pub sent : List Tp → List (List ℕ)
-sent [] = []
-sent (t ∷ ts) = t .bytes ∷ sent ts
-
+-- the LLEPs in TPs
 abbrev pub gone : List Tp → List (List ℕ)
 gone [] = []
 gone (t ∷ ts) = t .lleps ++ gone ts
@@ -41,7 +36,7 @@ abbrev pub AllOf : ℕ → List Tp → Type 0
 AllOf n [] = Unit {0}
 AllOf n (t ∷ ts) = (length (t .bytes) ≡ n) × AllOf n ts
 
-flatten-append : (xs ys : List (List ℕ)) → flatten (xs ++ ys) ≡ flatten xs ++ flatten ys
+pub flatten-append : (xs ys : List (List ℕ)) → flatten (xs ++ ys) ≡ flatten xs ++ flatten ys
 unfolding flatten
 flatten-append [] ys = refl
 flatten-append (x ∷ xs) ys = ap (λ l. x ++ l) (flatten-append xs ys) ∙ sym (append-assoc x (flatten xs) (flatten ys))
@@ -88,7 +83,7 @@ module _ (P str F : ℕ) (top : P ≤ 2047) where
   all-long (t ∷ ts) [] are = absurd are
   all-long (t ∷ ts) (l ∷ ls) are = (long t l (are .0), all-long ts ls (are .1))
 
-  own-all : (ts : List Tp) (ls : List Load) → TpsAre P str F top ts ls → arrived ts (sent ts) ≡ bytes wire (owns ls)
+  own-all : (ts : List Tp) (ls : List Load) → TpsAre P str F top ts ls → ordinaryOf ts (drawn ts) ≡ bytes wire (owns ls)
   own-all [] [] are = refl
   own-all [] (l ∷ ls) are = absurd are
   own-all (t ∷ ts) [] are = absurd are
@@ -130,7 +125,7 @@ module _ (size str F : ℕ) (w : World) (e : opened size str F (length (w .low))
 
   -- the ordinary bytes drawn, then those still to be drawn, are the EPs of accepted packets and of fill, in order;
   -- all pieces of a packet are one item, so fill never comes between them
-  pub ordinary-law : arrived ts (sent ts) ++ undrawn (left w cs) ≡ flatten (allEps (items F (deeds w cs)))
+  pub ordinary-law : ordinaryOf ts (drawn ts) ++ undrawn (left w cs) ≡ flatten (allEps (items F (deeds w cs)))
   ordinary-law =
       ap₂ (λ (a b : List ℕ). a ++ b) (own-all P str F top ts (ran .flows .loads) (ran .flows .tps-are))
       (sym (left-bytes P str F (length (w .low)) (length (w .ordinary)) top (lim .3) (lim .4) (left w cs) (ran .lows′) (ran .pend′) (ran .holds)))

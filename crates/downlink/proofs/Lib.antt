@@ -6,6 +6,7 @@ pub mod Cut
 pub mod Joins
 pub mod Items
 pub mod Gaps
+pub mod Through
 -- the sender over any calls: what its TPs carry
 pub mod Heads
 pub mod Marks
@@ -25,6 +26,7 @@ pub mod See
 pub mod Listen
 pub mod Calling
 -- demand 3
+pub mod Own
 pub mod Stretch
 pub mod Demanded
 -- beside it: calls end; no damage is within the limits; a packet's own places; who is shut out

@@ -14,17 +14,18 @@ use Rattle.receiver.specs.declared.kind.Kind.the-variants.{Fill, Reserved, Comp
 use Rattle.receiver.specs.Frame.{Frame, Event, lose, gap, opened, entered, fed, closed, Out}
 use Rattle.receiver.specs.Join.{Finding, notice, low, ordinary, Held, free, held, Took, broken, goes-on, meets, handed, finish, fits, further, admit, take-in, listed, holding, finds}
 use Rattle.receiver.specs.Low.{wire}
-use Rattle.receiver.specs.Tp.{Setting, Heard, Stand, Input, tpIn, inputOf, listing, listingAll}
+use Rattle.receiver.specs.Tp.{Setting, Heard, Stand, Input, tpIn, gapTold, inputOf, listing, listingOf, listingAll}
 use Rattle.sender.specs.Run.{Tp}
 use Rattle.downlink.specs.Damage.{TpNear, TpsNear}
 use Rattle.downlink.specs.Hearing.{Packet}
-use Rattle.downlink.specs.Demand.{lowsIn}
+use Rattle.downlink.specs.Gaps.{heardOf}
 use Rattle.downlink.proofs.Window.{bytes, before, part}
-use Rattle.downlink.proofs.Window as W
 use Rattle.downlink.proofs.Joins.{packets, packets-append, finds-append}
 use Rattle.downlink.proofs.Marks.{Cells}
 use Rattle.downlink.proofs.Lows.{lleps}
 use Rattle.downlink.proofs.Loads.{Load, TpIs, TpsAre}
+use Rattle.downlink.proofs.Places.{lowsBy}
+use Rattle.downlink.proofs.Gaps.{heeding, listened}
 use Rattle.downlink.proofs.Arrive.{mix, mix-length}
 use Rattle.downlink.proofs.See.{lowsFound, own, own-length, heard-is}
 
@@ -36,10 +37,6 @@ lowsOf (notice n ∷ fs) = lowsOf fs
 lowsOf (low c d ∷ fs) = (c, d) ∷ lowsOf fs
 lowsOf (ordinary c d ∷ fs) = lowsOf fs
 
-abbrev pub inputs : List (List ℕ) → List Input
-inputs [] = []
-inputs (r ∷ rs) = tpIn r ∷ inputs rs
-
 pub lows-append : (xs ys : List (Finding wire)) → lowsOf (xs ++ ys) ≡ lowsOf xs ++ lowsOf ys
 lows-append [] ys = refl
 lows-append (notice n ∷ xs) ys = lows-append xs ys
@@ -50,7 +47,7 @@ packets-lows : (ps : List Packet) (bs : List ℕ) → packets wire (lowsFound ps
 packets-lows [] bs = refl
 packets-lows (p ∷ ps) bs = packets-lows ps (drop (7 + length (p .1)) bs)
 
-lows-lows : (ps : List Packet) (bs : List ℕ) → lowsOf (lowsFound ps bs) ≡ lowsIn ps bs
+lows-lows : (ps : List Packet) (bs : List ℕ) → lowsOf (lowsFound ps bs) ≡ lowsBy ps bs
 lows-lows [] bs = refl
 lows-lows (p ∷ ps) bs = ap (λ l. (p .0, take (length (p .1)) (drop 6 bs)) ∷ l) (lows-lows ps (drop (7 + length (p .1)) bs))
 
@@ -131,10 +128,11 @@ chunks [] rs = []
 chunks (l ∷ ls) [] = []
 chunks (l ∷ ls) (r ∷ rs) = cellsOf l r ∷ chunks ls rs
 
-abbrev pub lowsHeard : List Load → List (List ℕ) → List Packet
-lowsHeard [] rs = []
-lowsHeard (l ∷ ls) [] = []
-lowsHeard (l ∷ ls) (r ∷ rs) = lowsIn (l .now) (drop 4 r) ++ lowsHeard ls rs
+-- the low-latency packets of the TPs that arrived, of which the first has the number n
+abbrev pub lowsHeard : (ℕ → Bool) → ℕ → List Load → List (List ℕ) → List Packet
+lowsHeard arrived n [] rs = []
+lowsHeard arrived n (l ∷ ls) [] = []
+lowsHeard arrived n (l ∷ ls) (r ∷ rs) = cond (arrived n) (lowsBy (l .now) (drop 4 r)) [] ++ lowsHeard arrived (suc n) ls rs
 
 pub before-mix : (cs : Cells) (bs : List ℕ) → length cs ≡ length bs → before wire (mix cs bs) ≡ before wire cs
 before-mix [] bs p = refl
@@ -169,41 +167,73 @@ module _ (size str F P room : ℕ) (top : P ≤ 2047) (size-is : size ≡ 4 + P)
         let e = own-length size str F P room top size-is str-most t l is r near in
         mix-length (l .own) (own size str F P room top size-is str-most t l is r near) (omega arith)
 
-  -- low-latency packets: those that the TPs carry
-  pub got-lows : (x : Stand) (ts : List Tp) (ls : List Load) (rs : List (List ℕ)) → TpsAre P str F top ts ls → TpsNear ts rs
-      → lowsOf (listingAll S x (inputs rs) .0) ≡ lowsHeard ls rs
-  got-lows x [] [] [] is near = refl
-  got-lows x [] (l ∷ ls) rs is near = absurd is
-  got-lows x [] [] (r ∷ rs) is near = absurd near
-  got-lows x (t ∷ ts) [] rs is near = absurd is
-  got-lows x (t ∷ ts) (l ∷ ls) [] is near = absurd near
-  got-lows x (t ∷ ts) (l ∷ ls) (r ∷ rs) is near =
-      let h = inputOf S (x .frame) (tpIn r) in
-      let x′ : Stand = listing S x h .1 in
-      let fs = finds wire room (x .held) (h .told) in
-      lows-append (h .lows ++ fs) (listingAll S x′ (inputs rs) .0)
-      ∙ ap₂ (λ (a b : List Packet). a ++ b)
-      (lows-append (h .lows) fs ∙ ap (λ l. lowsOf (h .lows) ++ l) (no-lows room (x .held) (h .told)) ∙ append-nil (lowsOf (h .lows))
-      ∙ ap (λ (y : Heard). lowsOf (y .lows)) (one-tp t l (is .0) r (near .0) (x .frame)) ∙ lows-lows (l .now) (drop 4 r))
-      (got-lows x′ ts ls rs (is .1) (near .1))
+  module _ (arrived : ℕ → Bool) where
+    -- low-latency packets: those of the TPs that arrived
+    pub got-lows : (told : Bool) (n : ℕ) (x : Stand) (ts : List Tp) (ls : List Load) (rs : List (List ℕ)) → TpsAre P str F top ts ls → TpsNear ts rs
+        → lowsOf (listingAll S x (heardOf arrived told n rs) .0) ≡ lowsHeard arrived n ls rs
+    got-lows told n x [] [] [] is near = refl
+    got-lows told n x [] (l ∷ ls) rs is near = absurd is
+    got-lows told n x [] [] (r ∷ rs) is near = absurd near
+    got-lows told n x (t ∷ ts) [] rs is near = absurd is
+    got-lows told n x (t ∷ ts) (l ∷ ls) [] is near = absurd near
+    got-lows told n x (t ∷ ts) (l ∷ ls) (r ∷ rs) is near = go (arrived n) told (λ told x. got-lows told (suc n) x ts ls rs (is .1) (near .1))
+      where
+        h : Heard
+        h = inputOf S (x .frame) (tpIn r)
 
-  -- ordinary packets: those that reading the chunks gives
-  pub got-ordinary : (x : Stand) (ts : List Tp) (ls : List Load) (rs : List (List ℕ)) → TpsAre P str F top ts ls → TpsNear ts rs
-      → packets wire (listingAll S x (inputs rs) .0) ≡ packets wire (finds wire room (x .held) (W.heard wire (x .frame) (chunks ls rs)))
-  got-ordinary x [] [] [] is near = refl
-  got-ordinary x [] (l ∷ ls) rs is near = absurd is
-  got-ordinary x [] [] (r ∷ rs) is near = absurd near
-  got-ordinary x (t ∷ ts) [] rs is near = absurd is
-  got-ordinary x (t ∷ ts) (l ∷ ls) [] is near = absurd near
-  got-ordinary x (t ∷ ts) (l ∷ ls) (r ∷ rs) is near =
-      let o : Out wire = step (x .frame) (cellsOf l r) in
-      let x′ : Stand = record { frame = o .0; held = holding wire room (x .held) (o .1) } in
-      let fs = finds wire room (x .held) (o .1) in
-      let lf = lowsFound (l .now) (drop 4 r) in
-      let later = W.heard wire (o .0) (chunks ls rs) in
-      ap (λ (h : Heard). packets wire (listing S x h .0 ++ listingAll S (listing S x h .1) (inputs rs) .0)) (one-tp t l (is .0) r (near .0) (x .frame))
-      ∙ packets-append wire (lf ++ fs) (listingAll S x′ (inputs rs) .0)
-      ∙ ap₂ (λ (a b : List Packet). a ++ b)
-      (packets-append wire lf fs ∙ ap (λ z. z ++ packets wire fs) (packets-lows (l .now) (drop 4 r)))
-      (got-ordinary x′ ts ls rs (is .1) (near .1))
-      ∙ sym (ap (packets wire) (finds-append wire room (x .held) (o .1) later) ∙ packets-append wire fs (finds wire room (x′ .held) later))
+        fs : List (Finding wire)
+        fs = finds wire room (x .held) (h .told)
+
+        on : Bool → List Input
+        on told = heardOf arrived told (suc n) rs
+
+        go : (b told : Bool) → ((told : Bool) (x : Stand) → lowsOf (listingAll S x (on told) .0) ≡ lowsHeard arrived (suc n) ls rs)
+            → lowsOf (listingAll S x (cond b (tpIn r ∷ on false) (cond told (on true) (gapTold ∷ on true))) .0)
+            ≡ cond b (lowsBy (l .now) (drop 4 r)) [] ++ lowsHeard arrived (suc n) ls rs
+        go true told ih =
+            lows-append (h .lows ++ fs) (listingAll S (listing S x h .1) (on false) .0)
+            ∙ ap₂ (λ (a b : List Packet). a ++ b)
+            (lows-append (h .lows) fs ∙ ap (λ l. lowsOf (h .lows) ++ l) (no-lows room (x .held) (h .told)) ∙ append-nil (lowsOf (h .lows))
+            ∙ ap (λ (y : Heard). lowsOf (y .lows)) (one-tp t l (is .0) r (near .0) (x .frame)) ∙ lows-lows (l .now) (drop 4 r))
+            (ih false (listing S x h .1))
+        go false true ih = ih true x
+        go false false ih = ih true (listingOf S x gapTold .1)
+
+    -- ordinary packets: those that reading their chunks gives
+    pub got-ordinary : (told : Bool) (n : ℕ) (x : Stand) (ts : List Tp) (ls : List Load) (rs : List (List ℕ)) → TpsAre P str F top ts ls → TpsNear ts rs
+        → packets wire (listingAll S x (heardOf arrived told n rs) .0)
+        ≡ packets wire (finds wire room (x .held) (listened wire arrived told n (x .frame) (chunks ls rs)))
+    got-ordinary told n x [] [] [] is near = refl
+    got-ordinary told n x [] (l ∷ ls) rs is near = absurd is
+    got-ordinary told n x [] [] (r ∷ rs) is near = absurd near
+    got-ordinary told n x (t ∷ ts) [] rs is near = absurd is
+    got-ordinary told n x (t ∷ ts) (l ∷ ls) [] is near = absurd near
+    got-ordinary told n x (t ∷ ts) (l ∷ ls) (r ∷ rs) is near = go (arrived n) told (λ told x. got-ordinary told (suc n) x ts ls rs (is .1) (near .1))
+      where
+        o : Out wire
+        o = step (x .frame) (cellsOf l r)
+
+        x′ : Stand
+        x′ = record { frame = o .0; held = holding wire room (x .held) (o .1) }
+
+        on : Bool → List Input
+        on told = heardOf arrived told (suc n) rs
+
+        later : Bool → Frame wire → List (Event wire)
+        later told f = listened wire arrived told (suc n) f (chunks ls rs)
+
+        go : (b told : Bool)
+            → ((told : Bool) (x : Stand) → packets wire (listingAll S x (on told) .0) ≡ packets wire (finds wire room (x .held) (later told (x .frame))))
+            → packets wire (listingAll S x (cond b (tpIn r ∷ on false) (cond told (on true) (gapTold ∷ on true))) .0)
+            ≡ packets wire (finds wire room (x .held) (heeding wire b told o (x .frame) later))
+        go true told ih =
+            let fs = finds wire room (x .held) (o .1) in
+            let lf = lowsFound (l .now) (drop 4 r) in
+            ap (λ (h : Heard). packets wire (listing S x h .0 ++ listingAll S (listing S x h .1) (on false) .0)) (one-tp t l (is .0) r (near .0) (x .frame))
+            ∙ packets-append wire (lf ++ fs) (listingAll S x′ (on false) .0)
+            ∙ ap₂ (λ (a b : List Packet). a ++ b)
+            (packets-append wire lf fs ∙ ap (λ z. z ++ packets wire fs) (packets-lows (l .now) (drop 4 r)))
+            (ih false x′)
+            ∙ sym (ap (packets wire) (finds-append wire room (x .held) (o .1) (later false (o .0))) ∙ packets-append wire fs (finds wire room (x′ .held) (later false (o .0))))
+        go false true ih = ih true x
+        go false false ih = ih true (listingOf S x gapTold .1)

@@ -10,7 +10,7 @@ use Rattle.receiver.specs.Low.{wire}
 use Rattle.sender.specs.Run.{Tp, Deed, refused, took, tookLow, drew, tps}
 use Rattle.downlink.specs.Damage.{Item, filler, packet, fillers, items, eps}
 use Rattle.downlink.specs.Hearing.{Packet}
-use Rattle.downlink.specs.Demand.{lowsTaken}
+use Rattle.downlink.specs.Due.{lowsTaken}
 use Rattle.downlink.proofs.Window.{bytes, before}
 use Rattle.downlink.proofs.Marks.{Cells, epCells, epsCells}
 use Rattle.downlink.proofs.Lows.{lleps, LowsOk}
@@ -61,7 +61,7 @@ module _ (P str F : ℕ) (top : P ≤ 2047) where
   -- an item that could be accepted, or filled in
   abbrev pub ItemOk : Item → Type 0
   ItemOk (filler e) = (n : ℕ) × (n ≤ 2047) × (e ≡ ep 0 0 (replicate n 0xAA))
-  ItemOk (packet c es) = (d : List ℕ) × (1 ≤ c) × (c ≤ 6) × (length d ≤ 131072) × (es ≡ pieces F c d)
+  ItemOk (packet c d es) = (1 ≤ c) × (c ≤ 6) × (es ≡ pieces F c d)
 
   abbrev pub ItemsOk : List Item → Type 0
   ItemsOk [] = Unit {0}

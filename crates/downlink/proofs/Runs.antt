@@ -15,13 +15,20 @@ use Rattle.sender.specs.declared.Sender.{Sender}
 use Rattle.sender.specs.declared.Answer.the-variants.{Done, Refused}
 use Rattle.sender.specs.Opening.{allowed, small, empty, fresh, opened}
 use Rattle.receiver.specs.Low.{wire}
-use Rattle.sender.specs.Run.{Call, ordinary, low, draw, World, next, deed, deeds, left, undrawn}
+use Rattle.sender.specs.Run.{Call, ordinary, low, draw, World, Deed, refused, took, tookLow, drew, next, deed, deeds, left, undrawn}
 use Rattle.downlink.specs.Hearing.{Packet}
+use Rattle.downlink.specs.Demand.{Fit}
 use Rattle.downlink.proofs.Window.{bytes, bytes-append}
 use Rattle.downlink.proofs.Marks.{Cells, Plain, Good}
 use Rattle.downlink.proofs.Loads.{Flows, none-done, then}
 use Rattle.downlink.proofs.Holds.{world, Facts, Holds, hold, Steps, low-step, ordinary-step}
 use Rattle.downlink.proofs.Draws.{draw-step}
+
+fit-cons : (n : ℕ) (d : Deed) (ds : List Deed) → Fit n (d ∷ []) → Fit n ds → Fit n (d ∷ ds)
+fit-cons n refused ds p q = q
+fit-cons n (took c x) ds p q = (p .0, q)
+fit-cons n (tookLow c x) ds p q = q
+fit-cons n (drew t) ds p q = q
 
 module _ (P str F ls os : ℕ) (top : P ≤ 2047) (piece₁ : 1 ≤ F) (piece₂ : F ≤ 65535) where
   abbrev pub Has : World → List Packet → Cells → Type 0
@@ -46,9 +53,11 @@ module _ (P str F ls os : ℕ) (top : P ≤ 2047) (piece₁ : 1 ≤ F) (piece₂
     pub pend′ : Cells
     pub holds : Has (left w cs) lows′ pend′
     pub flows : Flows P str F top (deeds w cs) lows pend lows′ pend′
+    pub short : Fit 131072 (deeds w cs)
+    pub queued : Fit os (deeds w cs)
 
   pub run : (w : World) (cs : List Call) (lows : List Packet) (pend : Cells) → Has w lows pend → Ran w cs lows pend
-  run w [] lows pend h = record { lows′ = lows; pend′ = pend; holds = h; flows = none-done P str F top lows pend }
+  run w [] lows pend h = record { lows′ = lows; pend′ = pend; holds = h; flows = none-done P str F top lows pend; short = tt; queued = tt }
   run w (c ∷ cs) lows pend h =
       let s = one w lows pend c h in
       let x = run (next w c) cs (s .lows′) (s .pend′) (s .holds) in
@@ -57,6 +66,8 @@ module _ (P str F ls os : ℕ) (top : P ≤ 2047) (piece₁ : 1 ≤ F) (piece₂
         pend′ = x .pend′;
         holds = x .holds;
         flows = then P str F top (deed w c) (deeds (next w c) cs) lows (s .lows′) (x .lows′) pend (s .pend′) (x .pend′) (s .flows) (x .flows);
+        short = fit-cons 131072 (deed w c) (deeds (next w c) cs) (s .short) (x .short);
+        queued = fit-cons os (deed w c) (deeds (next w c) cs) (s .queued) (x .queued);
       }
 
   pub left-bytes : (w : World) (lows : List Packet) (pend : Cells) → Has w lows pend → bytes wire pend ≡ undrawn w

@@ -17,18 +17,18 @@ use Rattle.receiver.proofs.Rest.{before, stageRest, saying, afterwards}
 use Rattle.receiver.proofs.Lasting.{call-lasts}
 use Rattle.receiver.proofs.Ending.{call-tells}
 use Rattle.receiver.proofs.Called.{comingOf, call-rest, told-on}
-use Rattle.downlink.specs.Hearing.{Place, Called, ends}
+use Rattle.downlink.specs.Hearing.{Listener, Called, ends}
 use Rattle.downlink.proofs.Calling.{not-ended}
 
 -- calls of one TP of which none ends it
-abbrev pub Going : List ℕ → Place → List Called → Type 0
+abbrev pub Going : List ℕ → Listener → List Called → Type 0
 Going tp x [] = Unit {0}
 Going tp x (c ∷ cs) =
     Gives (callOf (x .receiver) tp (x .room)) (c .step) tp (c .room) × (ends (c .step .find) ≡ false)
     × Going tp (record { receiver = c .step .receiver; room = c .room }) cs
 
 -- the finds still to come
-abbrev pub coming : List ℕ → Place → Listing
+abbrev pub coming : List ℕ → Listener → Listing
 coming tp x = comingOf (x .receiver .stage) (x .receiver) tp (x .room)
 
 abbrev staged : ℕ → Stage → Receiver → List ℕ → List ℕ → Listing
@@ -47,7 +47,7 @@ one-find cap (F.Notice n) d e = refl
 one-find cap (F.Low c start n) d e = refl
 one-find cap (F.Ordinary c n) d e = refl
 
-pub ends-soon : (tp : List ℕ) (cs : List Called) (x : Place) → Able (x .receiver) → length (x .room) ≡ x .receiver .limit → length tp ≡ x .receiver .size
+pub ends-soon : (tp : List ℕ) (cs : List Called) (x : Listener) → Able (x .receiver) → length (x .room) ≡ x .receiver .limit → length tp ≡ x .receiver .size
     → Going tp x cs → length cs ≤ length (coming tp x .0)
 unfolding stepped
 ends-soon tp [] x able full whole going = omega arith

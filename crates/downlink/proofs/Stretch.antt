@@ -1,28 +1,36 @@
--- The TPs from the k-th on carry a stretch of the items' stream: what is due of it is what reading it hands out.
--- Assumes nothing.
-use Prim.Native.Nat.{ℕ, zero, suc, _+_, _≤_}
+-- The TPs carry the items' stream: what is due of those that arrived is what reading them hands out. Assumes nothing.
+use Prim.Native.Nat.{ℕ, suc, _+_, _≤_, _<_}
 use mathlib.Core.Path.{_≡_, refl, sym, ap, ap₂, _∙_}
-use mathlib.Core.List.{List, [], _∷_, _++_, append-assoc}
+use mathlib.Core.Bool.{Bool, true, false, cond}
+use mathlib.Core.List.{List, [], _∷_, _++_, append-assoc, map, map-append}
 use native.Mathlib.Omega.{arith}
-use lib.ListN.{length, take, drop, length-append}
-use lib.Seq.{take-at, drop-at, drop-drop}
+use lib.ListN.{length, take, drop, length-append, length-drop}
+use lib.Seq.{take-at, drop-at, append-snoc}
 use Rattle.sender.specs.Drawing as D
 use Rattle.receiver.specs.Frame.{lost}
 use Rattle.receiver.specs.Join.{free, finds}
 use Rattle.receiver.specs.Low.{wire}
 use Rattle.sender.specs.Run.{Tp}
-use Rattle.downlink.specs.Damage.{Item, allEps, TpsNear, EpsNear, arrived}
+use Rattle.downlink.specs.Damage.{Item, allEps, TpsNear, EpsNear, drawn, behindLows, ordinaryOf}
 use Rattle.downlink.specs.Hearing.{Packet}
-use Rattle.downlink.specs.Demand.{carried, lowsIn, lowsDue, ordinaryDue}
-use Rattle.downlink.proofs.Window.{bytes, flat, heard}
+use Rattle.downlink.specs.Due.{Place, placesIn, byteAt, asOffered, lowsIn, lowsDue}
+use Rattle.downlink.specs.Demand.{carries}
+use Rattle.downlink.specs.Gaps.{through}
+use Rattle.downlink.proofs.Within.{alike}
+use Rattle.downlink.proofs.Window.{bytes, flat}
 use Rattle.downlink.proofs.Trains.{stream}
 use Rattle.downlink.proofs.Items as R
 use Rattle.downlink.proofs.Joins.{packets}
 use Rattle.downlink.proofs.Marks.{Cells, bytes-length}
 use Rattle.downlink.proofs.Lows.{lleps}
 use Rattle.downlink.proofs.Loads.{Load, nows, owns, itemsCells, TpIs, TpsAre, ItemsOk}
-use Rattle.downlink.proofs.Arrive.{mix, mix-length}
-use Rattle.downlink.proofs.Streams.{arrives}
+use Rattle.downlink.proofs.Arrive.{mix}
+use Rattle.downlink.proofs.Streams.{handedBy, AllFit, arrives}
+use Rattle.downlink.proofs.Gaps.{unbroken, listened, lengths, at-start, item-some, gaps}
+use Rattle.downlink.proofs.Through.{through-is}
+use Rattle.downlink.proofs.Places.{lowsBy, lows-back}
+use Rattle.downlink.proofs.Own.{map-drop, read, lows-read, lows-offered, SameLengths, row-at}
+use Rattle.downlink.proofs.Intact.{payload-is}
 use Rattle.downlink.proofs.Listen.{cellsOf, chunks, lowsHeard, cells-length}
 use Rattle.downlink.proofs.See.{own-length}
 
@@ -46,37 +54,87 @@ module _ (size str F P room : ℕ) (top : P ≤ 2047) (size-is : size ≡ 4 + P)
 
   -- ---- the low-latency packets that are due
 
-  pub lows-due : (ts : List Tp) (ls : List Load) (rs : List (List ℕ)) (z : List Packet) → TpsAre P str F top ts ls → lowsDue (nows ls ++ z) ts rs ≡ lowsHeard ls rs
-  lows-due [] [] rs z is = refl
-  lows-due [] (l ∷ ls) rs z is = absurd is
-  lows-due (t ∷ ts) [] rs z is = absurd is
-  lows-due (t ∷ ts) (l ∷ ls) [] z is = refl
-  lows-due (t ∷ ts) (l ∷ ls) (r ∷ rs) z is =
-      let n : ℕ = length (t .lleps) in
-      let n-is : length (l .now) ≡ n = sym (ap length (is .0 .lleps-are) ∙ lleps-length (l .now)) in
-      let e : (l .now ++ nows ls) ++ z ≡ l .now ++ (nows ls ++ z) = append-assoc (l .now) (nows ls) z in
-      ap₂ (λ (a b : List Packet). lowsIn a (drop 4 r) ++ lowsDue b ts rs)
-      (ap (take n) e ∙ take-at (l .now) (nows ls ++ z) n n-is) (ap (drop n) e ∙ drop-at (l .now) (nows ls ++ z) n n-is)
-      ∙ ap (λ b. lowsIn (l .now) (drop 4 r) ++ b) (lows-due ts ls rs z (is .1))
+  module _ (arrived : ℕ → Bool) where
+    -- with the bytes that these TPs have at their places
+    pub lows-got : (pre : List (List ℕ)) (n : ℕ) (ts : List Tp) (ls : List Load) (rs : List (List ℕ)) (z : List Packet)
+        → length pre ≡ n → SameLengths ts rs → TpsAre P str F top ts ls
+        → map (read (byteAt (pre ++ rs))) (lowsDue arrived n (nows ls ++ z) ts) ≡ lowsHeard arrived n ls rs
+    lows-got pre n [] [] rs z p same is = refl
+    lows-got pre n [] (l ∷ ls) rs z p same is = absurd is
+    lows-got pre n (t ∷ ts) [] rs z p same is = absurd is
+    lows-got pre n (t ∷ ts) (l ∷ ls) [] z p same is = absurd same
+    lows-got pre n (t ∷ ts) (l ∷ ls) (r ∷ rs) z p same is =
+        map-append (read f) (cond (arrived n) (lowsIn (take m ps) row) []) (lowsDue arrived (suc n) (drop m ps) ts)
+        ∙ ap₂ (λ (a b : List Packet). a ++ b)
+        (go (arrived n))
+        (ap (λ (qs : List Packet). map (read f) (lowsDue arrived (suc n) qs ts)) (ap (drop m) e ∙ drop-at (l .now) (nows ls ++ z) m m-is)
+        ∙ ap (λ (tps : List (List ℕ)). map (read (byteAt tps)) (lowsDue arrived (suc n) (nows ls ++ z) ts)) (sym (append-snoc pre r rs))
+        ∙ lows-got (pre ++ r ∷ []) (suc n) ts ls rs z (omega (arith, length-append pre (r ∷ []))) (same .1) (is .1))
+      where
+        m : ℕ
+        m = length (t .lleps)
 
-  pub lows-from : (k : ℕ) (ts : List Tp) (ls : List Load) (z : List Packet) → TpsAre P str F top ts ls
-      → drop (carried (take k ts)) (nows ls ++ z) ≡ nows (drop k ls) ++ z
-  lows-from zero ts ls z is = refl
-  lows-from (suc k) [] [] z is = refl
-  lows-from (suc k) [] (l ∷ ls) z is = absurd is
-  lows-from (suc k) (t ∷ ts) [] z is = absurd is
-  lows-from (suc k) (t ∷ ts) (l ∷ ls) z is =
-      let n : ℕ = length (t .lleps) in
-      let n-is : length (l .now) ≡ n = sym (ap length (is .0 .lleps-are) ∙ lleps-length (l .now)) in
-      sym (drop-drop (carried (take k ts)) n ((l .now ++ nows ls) ++ z))
-      ∙ ap (drop (carried (take k ts))) (ap (drop n) (append-assoc (l .now) (nows ls) z) ∙ drop-at (l .now) (nows ls ++ z) n n-is)
-      ∙ lows-from k ts ls z (is .1)
+        m-is : length (l .now) ≡ m
+        m-is = sym (ap length (is .0 .lleps-are) ∙ lleps-length (l .now))
+
+        ps : List Packet
+        ps = (l .now ++ nows ls) ++ z
+
+        e : ps ≡ l .now ++ (nows ls ++ z)
+        e = append-assoc (l .now) (nows ls) z
+
+        f : Place → ℕ
+        f = byteAt (pre ++ r ∷ rs)
+
+        row : List Place
+        row = drop 4 (placesIn n 0 (t .bytes))
+
+        go : (b : Bool) → map (read f) (cond b (lowsIn (take m ps) row) []) ≡ cond b (lowsBy (l .now) (drop 4 r)) []
+        go true =
+            lows-read f (take m ps) row
+            ∙ ap₂ (λ (a : List Packet) (b : List ℕ). lowsBy a b) (ap (take m) e ∙ take-at (l .now) (nows ls ++ z) m m-is)
+            (map-drop f 4 (placesIn n 0 (t .bytes)) ∙ ap (drop 4) (row-at pre n t r rs p (same .0)))
+        go false = refl
+
+    -- as they were drawn
+    pub lows-sent : (n : ℕ) (ts : List Tp) (ls : List Load) (z : List Packet) → TpsAre P str F top ts ls
+        → lowsHeard arrived n ls (drawn ts) ≡ map asOffered (lowsDue arrived n (nows ls ++ z) ts)
+    lows-sent n [] [] z is = refl
+    lows-sent n [] (l ∷ ls) z is = absurd is
+    lows-sent n (t ∷ ts) [] z is = absurd is
+    lows-sent n (t ∷ ts) (l ∷ ls) z is =
+        ap₂ (λ (a b : List Packet). a ++ b)
+        (go (arrived n))
+        (lows-sent (suc n) ts ls z (is .1)
+        ∙ ap (λ (qs : List Packet). map asOffered (lowsDue arrived (suc n) qs ts)) (sym (ap (drop m) e ∙ drop-at (l .now) (nows ls ++ z) m m-is)))
+        ∙ sym (map-append asOffered (cond (arrived n) (lowsIn (take m ps) row) []) (lowsDue arrived (suc n) (drop m ps) ts))
+      where
+        m : ℕ
+        m = length (t .lleps)
+
+        m-is : length (l .now) ≡ m
+        m-is = sym (ap length (is .0 .lleps-are) ∙ lleps-length (l .now))
+
+        ps : List Packet
+        ps = (l .now ++ nows ls) ++ z
+
+        e : ps ≡ l .now ++ (nows ls ++ z)
+        e = append-assoc (l .now) (nows ls) z
+
+        row : List Place
+        row = drop 4 (placesIn n 0 (t .bytes))
+
+        go : (b : Bool) → cond b (lowsBy (l .now) (drop 4 (t .bytes))) [] ≡ map asOffered (cond b (lowsIn (take m ps) row) [])
+        go true =
+            ap (lowsBy (l .now)) (payload-is P str F top t l (is .0)) ∙ lows-back (l .now) (bytes wire (l .own))
+            ∙ sym (lows-offered (take m ps) row ∙ ap (take m) e ∙ take-at (l .now) (nows ls ++ z) m m-is)
+        go false = refl
 
   -- ---- the ordinary bytes that arrived, marked as they were sent
 
   record Whole (ts : List Tp) (ls : List Load) (rs : List (List ℕ)) : Type 0 where
-    flat-is : flat wire (chunks ls rs) ≡ mix (owns ls) (arrived ts rs)
-    length-is : length (owns ls) ≡ length (arrived ts rs)
+    flat-is : flat wire (chunks ls rs) ≡ mix (owns ls) (ordinaryOf ts rs)
+    length-is : length (owns ls) ≡ length (ordinaryOf ts rs)
 
   whole : (ts : List Tp) (ls : List Load) (rs : List (List ℕ)) → TpsAre P str F top ts ls → TpsNear ts rs → Whole ts ls rs
   whole [] [] [] is near = record { flat-is = refl; length-is = refl }
@@ -89,66 +147,55 @@ module _ (size str F P room : ℕ) (top : P ≤ 2047) (size-is : size ≡ 4 + P)
       let o = own-is t l r (is .0) in
       let n : length (l .own) ≡ length (ownOf l r) = sym (own-length size str F P room top size-is str-most t l (is .0) r (near .0)) in
       record {
-        flat-is = ap (λ z. cellsOf l r ++ z) (w .flat-is) ∙ sym (mix-both (l .own) (owns ls) (ownOf l r) (arrived ts rs) n)
-            ∙ ap (λ z. mix (l .own ++ owns ls) (z ++ arrived ts rs)) (sym o);
+        flat-is = ap (λ z. cellsOf l r ++ z) (w .flat-is) ∙ sym (mix-both (l .own) (owns ls) (ownOf l r) (ordinaryOf ts rs) n)
+            ∙ ap (λ z. mix (l .own ++ owns ls) (z ++ ordinaryOf ts rs)) (sym o);
         length-is = length-append (l .own) (owns ls) ∙ ap₂ (λ (a b : ℕ). a + b) n (w .length-is)
-            ∙ sym (length-append (ownOf l r) (arrived ts rs)) ∙ ap (λ z. length (z ++ arrived ts rs)) (sym o);
+            ∙ sym (length-append (ownOf l r) (ordinaryOf ts rs)) ∙ ap (λ z. length (z ++ ordinaryOf ts rs)) (sym o);
       }
 
-  -- from TP k on
-  pub record From (k : ℕ) (ts : List Tp) (ls : List Load) (rs : List (List ℕ)) : Type 0 where
-    pub past : Cells
-    pub splits : flat wire (chunks ls rs) ≡ past ++ flat wire (chunks (drop k ls) (drop k rs))
-    pub past-length : length past ≡ length (arrived (take k ts) rs)
-    pub still-are : TpsAre P str F top (drop k ts) (drop k ls)
-    pub still-near : TpsNear (drop k ts) (drop k rs)
+  -- the chunks are as long as the TPs say
+  chunk-lengths : (ts : List Tp) (ls : List Load) (rs : List (List ℕ)) → TpsAre P str F top ts ls → TpsNear ts rs → lengths wire (chunks ls rs) ≡ carries ts
+  chunk-lengths [] [] [] is near = refl
+  chunk-lengths [] (l ∷ ls) rs is near = absurd is
+  chunk-lengths [] [] (r ∷ rs) is near = absurd near
+  chunk-lengths (t ∷ ts) [] rs is near = absurd is
+  chunk-lengths (t ∷ ts) (l ∷ ls) [] is near = absurd near
+  chunk-lengths (t ∷ ts) (l ∷ ls) (r ∷ rs) is near =
+      let m : ℕ = 4 + length (D.part (t .lleps)) in
+      let same : length (cellsOf l r) ≡ length (behindLows t (t .bytes)) =
+      omega (
+        arith,
+        cells-length size str F P room top size-is str-most t l (is .0) r (near .0),
+        own-length size str F P room top size-is str-most t l (is .0) r (near .0),
+        ap length (own-is t l r (is .0)),
+        length-drop m r,
+        length-drop m (t .bytes),
+        near .0 .0,
+      ) in
+      ap₂ (λ (a : ℕ) (b : List ℕ). a ∷ b) same (chunk-lengths ts ls rs (is .1) (near .1))
 
-  pub from-k : (k : ℕ) (ts : List Tp) (ls : List Load) (rs : List (List ℕ)) → TpsAre P str F top ts ls → TpsNear ts rs → From k ts ls rs
-  from-k zero ts ls rs is near = record { past = []; splits = refl; past-length = refl; still-are = is; still-near = near }
-  from-k (suc k) [] [] [] is near = record { past = []; splits = refl; past-length = refl; still-are = tt; still-near = tt }
-  from-k (suc k) [] (l ∷ ls) rs is near = absurd is
-  from-k (suc k) [] [] (r ∷ rs) is near = absurd near
-  from-k (suc k) (t ∷ ts) [] rs is near = absurd is
-  from-k (suc k) (t ∷ ts) (l ∷ ls) [] is near = absurd near
-  from-k (suc k) (t ∷ ts) (l ∷ ls) (r ∷ rs) is near =
-      let f = from-k k ts ls rs (is .1) (near .1) in
-      let m : Cells = cellsOf l r in
-      let b : List ℕ = drop (4 + length (D.part (t .lleps))) r in
-      let n : length m ≡ length (l .own) = cells-length size str F P room top size-is str-most t l (is .0) r (near .0) in
-      let c : length b ≡ length (l .own) = ap length (own-is t l r (is .0)) ∙ own-length size str F P room top size-is str-most t l (is .0) r (near .0) in
-      record {
-        past = m ++ f .past;
-        splits = ap (λ z. m ++ z) (f .splits) ∙ sym (append-assoc m (f .past) (flat wire (chunks (drop k ls) (drop k rs))));
-        past-length = omega (arith, f .past-length, length-append m (f .past), length-append b (arrived (take k ts) rs));
-        still-are = f .still-are;
-        still-near = f .still-near;
-      }
-
-  module _ (f₁ : 1 ≤ F) (f₂ : F ≤ 65535) (enough : 131072 ≤ room) where
-    -- ordinary packets, from TP k on
-    pub ordinary-right : (ts : List Tp) (ls : List Load) (rs : List (List ℕ)) (is : List Item) (pend : Cells) (k : ℕ)
-        → TpsAre P str F top ts ls → TpsNear ts rs → ItemsOk P str F top is → owns ls ++ pend ≡ itemsCells is
-        → EpsNear (allEps is) (arrived ts rs ++ bytes wire pend)
-        → packets wire (finds wire room free (heard wire lost (chunks (drop k ls) (drop k rs))))
-        ≡ ordinaryDue (length (arrived (take k ts) rs)) (length (arrived ts rs)) 0 is (arrived ts rs ++ bytes wire pend)
-    ordinary-right ts ls rs is pend k are near ok flow eps =
-        let f = from-k k ts ls rs are near in
+  module _ (f₁ : 1 ≤ F) (f₂ : F ≤ 65535) (arrived : ℕ → Bool) where
+    -- ordinary packets, whichever TPs arrived
+    pub ordinary-right : (told : Bool) (ts : List Tp) (ls : List Load) (rs : List (List ℕ)) (is : List Item) (pend : Cells) (t : ℕ → ℕ → Bool)
+        → ((a b : ℕ) → a < b → through arrived 0 (carries ts) a b ≡ t a b)
+        → TpsAre P str F top ts ls → TpsNear ts rs → ItemsOk P str F top is → AllFit room is → owns ls ++ pend ≡ itemsCells is
+        → EpsNear (allEps is) (ordinaryOf ts rs ++ bytes wire pend)
+        → packets wire (finds wire room free (listened wire arrived told 0 lost (chunks ls rs)))
+        ≡ handedBy t 0 is (ordinaryOf ts rs ++ bytes wire pend)
+    ordinary-right told ts ls rs is pend t agrees are near ok fit flow eps =
         let w = whole ts ls rs are near in
-        let ob : List ℕ = arrived ts rs in
+        let ob : List ℕ = ordinaryOf ts rs in
         let all : List ℕ = ob ++ bytes wire pend in
-        let from : ℕ = length (arrived (take k ts) rs) in
-        let to : ℕ = length ob in
         let len : length (itemsCells is) ≤ length all =
         omega (arith, ap length flow, length-append (owns ls) pend, length-append ob (bytes wire pend), bytes-length pend, w .length-is) in
-        let a = arrives P str F room top f₁ f₂ enough is all ok len eps in
-        let later : List Cells = chunks (drop k ls) (drop k rs) in
-        let B : Cells = flat wire later in
+        let a = arrives P str F room top f₁ f₂ is all ok fit len eps in
         let Z : Cells = mix pend (bytes wire pend) in
-        let S-is : stream wire (R.all-eps wire room (a .ris)) ≡ (f .past ++ B) ++ Z =
-        a .mixed ∙ ap (λ z. mix z all) (sym flow) ∙ mix-both (owns ls) pend ob (bytes wire pend) (w .length-is)
-        ∙ ap (λ z. z ++ Z) (sym (w .flat-is) ∙ f .splits) in
-        let to-is : length (f .past ++ B) ≡ to =
-        ap length (sym (f .splits) ∙ w .flat-is) ∙ mix-length (owns ls) ob (omega (arith, w .length-is)) ∙ w .length-is in
-        let B-is : B ≡ drop from (take to (stream wire (R.all-eps wire room (a .ris)))) =
-        sym (ap (λ z. drop from (take to z)) S-is ∙ ap (drop from) (take-at (f .past ++ B) Z to to-is) ∙ drop-at (f .past) B from (f .past-length)) in
-        R.window wire room (a .ris) later from to B-is ∙ a .due from to 0
+        let S-is : stream wire (R.all-eps wire room (a .ris)) ≡ flat wire (chunks ls rs) ++ Z =
+        a .mixed ∙ ap (λ z. mix z all) (sym flow) ∙ mix-both (owns ls) pend ob (bytes wire pend) (w .length-is) ∙ ap (λ z. z ++ Z) (sym (w .flat-is)) in
+        let same : (x y : ℕ) → x < y → unbroken arrived 0 0 (0 + 0) (lengths wire (chunks ls rs)) x y ≡ t x y =
+        λ x y h. ap₂ (λ (k : ℕ) (ms : List ℕ). unbroken arrived 0 0 k ms x y) (omega arith) (chunk-lengths ts ls rs are near)
+        ∙ through-is arrived 0 0 0 (carries ts) x y (omega arith) (omega arith) h
+        ∙ ap₂ (λ (p q : ℕ). through arrived 0 (carries ts) p q) (omega arith) (omega arith) ∙ agrees x y h in
+        gaps wire room (a .ris) arrived (chunks ls rs) told 0 0 [] Z (at-start wire told) S-is
+        ∙ ap (R.all-given wire room) (alike (R.item-size wire room) (item-some wire room) _ t same 0 (a .ris))
+        ∙ a .due t 0

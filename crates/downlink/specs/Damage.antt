@@ -12,10 +12,10 @@ use Rattle.sender.specs.Run.{Tp, Deed, refused, took, tookLow, drew}
 
 -- ---- what the ordinary bytes are made of, in order
 
--- a fill EP; the EPs of an accepted ordinary packet of this content
+-- a fill EP; an accepted ordinary packet of this content and data, and its EPs
 pub data Item : Type 0 where
   filler : List ℕ → Item
-  packet : ℕ → List (List ℕ) → Item
+  packet : ℕ → List ℕ → List (List ℕ) → Item
 
 abbrev pub fillers : List ℕ → List Item
 fillers [] = []
@@ -25,23 +25,32 @@ fillers (b ∷ e) = filler (b ∷ e) ∷ []
 abbrev pub items : ℕ → List Deed → List Item
 items F [] = []
 items F (refused ∷ ds) = items F ds
-items F (took c d ∷ ds) = packet c (pieces F c d) ∷ items F ds
+items F (took c d ∷ ds) = packet c d (pieces F c d) ∷ items F ds
 items F (tookLow c d ∷ ds) = items F ds
 items F (drew t ∷ ds) = fillers (t .fill) ++ items F ds
 
 abbrev pub eps : Item → List (List ℕ)
 eps (filler e) = e ∷ []
-eps (packet c es) = es
+eps (packet c d es) = es
 
 abbrev pub allEps : List Item → List (List ℕ)
 allEps [] = []
 allEps (i ∷ is) = eps i ++ allEps is
 
--- the ordinary bytes that arrived: of each TP those behind its low-latency part
-abbrev pub arrived : List Tp → List (List ℕ) → List ℕ
-arrived [] rs = []
-arrived (t ∷ ts) [] = []
-arrived (t ∷ ts) (r ∷ rs) = drop (4 + length (part (t .lleps))) r ++ arrived ts rs
+-- the TPs as they were drawn
+abbrev pub drawn : List Tp → List (List ℕ)
+drawn [] = []
+drawn (t ∷ ts) = t .bytes ∷ drawn ts
+
+-- of what stands at the places of a TP's bytes, that of its ordinary bytes: behind its low-latency part
+abbrev pub behindLows : {A : Type 0} → Tp → List A → List A
+behindLows t xs = drop (4 + length (part (t .lleps))) xs
+
+-- and of TPs, end to end
+abbrev pub ordinaryOf : {A : Type 0} → List Tp → List (List A) → List A
+ordinaryOf [] rs = []
+ordinaryOf (t ∷ ts) [] = []
+ordinaryOf (t ∷ ts) (r ∷ rs) = behindLows t r ++ ordinaryOf ts rs
 
 -- ---- the damage
 
@@ -87,4 +96,4 @@ TpsNear (t ∷ ts) (r ∷ rs) = TpNear t r × TpsNear ts rs
 -- Over the ordinary bytes end to end, a word that a TP end cuts is one word.
 pub record Damaged (ts : List Tp) (es : List (List ℕ)) (undrawn : List ℕ) (rs : List (List ℕ)) : Type 0 where
   pub tps : TpsNear ts rs
-  pub eps : EpsNear es (arrived ts rs ++ undrawn)
+  pub eps : EpsNear es (ordinaryOf ts rs ++ undrawn)

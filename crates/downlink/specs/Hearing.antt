@@ -1,4 +1,4 @@
--- A receiver called over TPs, each until none, by the promise of its contract (document 01, "Receiver").
+-- A receiver called over TPs, each until none, and told of gaps, by the promises of its contracts (document 01, "Receiver").
 -- The calls may give any answers that the contract allows. Assumes nothing.
 use mathlib.Core.Path.{_≡_}
 use mathlib.Core.Bool.{Bool, true, false, _&&_}
@@ -9,10 +9,11 @@ use Rattle.receiver.specs.declared.Find.{Find}
 use Rattle.receiver.specs.declared.Find.the-variants.{Nothing, Refused, Notice, Low, Ordinary}
 use Rattle.receiver.specs.declared.Receiver.{Receiver}
 use Rattle.receiver.specs.declared.Step.{Step}
-use Rattle.receiver.specs.Call.{dataOf, callOf, Gives}
+use Rattle.receiver.specs.Call.{dataOf, callOf, gapOf, Gives}
+use Rattle.receiver.specs.Tp.{Input, tpIn, gapTold}
 
 -- a receiver, and the bytes of its room
-pub record Place : Type 0 where
+pub record Listener : Type 0 where
   pub receiver : Receiver
   pub room : List ℕ
 
@@ -21,7 +22,7 @@ pub record Called : Type 0 where
   pub step : Step
   pub room : List ℕ
 
-abbrev pub onward : Place → List Called → Place
+abbrev pub onward : Listener → List Called → Listener
 onward x [] = x
 onward x (c ∷ cs) = onward (record { receiver = c .step .receiver; room = c .room }) cs
 
@@ -38,18 +39,27 @@ Either true ended more = ended
 Either false ended more = more
 
 -- the calls of one TP
-abbrev pub Calls : List ℕ → Place → List Called → Type 0
+abbrev pub Calls : List ℕ → Listener → List Called → Type 0
 Calls tp x [] = ⊥
 Calls tp x (c ∷ cs) =
     Gives (callOf (x .receiver) tp (x .room)) (c .step) tp (c .room)
     × Either (ends (c .step .find)) (cs ≡ []) (Calls tp (record { receiver = c .step .receiver; room = c .room }) cs)
 
--- of one after the other
-abbrev pub Hears : Place → List (List ℕ) → List (List Called) → Type 0
+abbrev pub toldOfGap : Listener → Listener
+toldOfGap x = record { receiver = gapOf (x .receiver); room = x .room }
+
+-- TPs and told gaps, one after the other
+abbrev pub Hears : Listener → List Input → List (List Called) → Type 0
 Hears x [] [] = Unit {0}
 Hears x [] (cs ∷ css) = ⊥
-Hears x (tp ∷ tps) [] = ⊥
-Hears x (tp ∷ tps) (cs ∷ css) = Calls tp x cs × Hears (onward x cs) tps css
+Hears x (tpIn tp ∷ xs) [] = ⊥
+Hears x (tpIn tp ∷ xs) (cs ∷ css) = Calls tp x cs × Hears (onward x cs) xs css
+Hears x (gapTold ∷ xs) css = Hears (toldOfGap x) xs css
+
+-- TPs alone
+abbrev pub tpsIn : List (List ℕ) → List Input
+tpsIn [] = []
+tpsIn (tp ∷ tps) = tpIn tp ∷ tpsIn tps
 
 -- ---- what is handed out
 
@@ -76,7 +86,8 @@ abbrev pub inTp : (Find → List ℕ → List Packet) → List ℕ → List Call
 inTp sort tp [] = []
 inTp sort tp (c ∷ cs) = sort (c .step .find) (dataOf (c .step .find) tp (c .room)) ++ inTp sort tp cs
 
-abbrev pub handedOut : (Find → List ℕ → List Packet) → List (List ℕ) → List (List Called) → List Packet
+abbrev pub handedOut : (Find → List ℕ → List Packet) → List Input → List (List Called) → List Packet
 handedOut sort [] css = []
-handedOut sort (tp ∷ tps) [] = []
-handedOut sort (tp ∷ tps) (cs ∷ css) = inTp sort tp cs ++ handedOut sort tps css
+handedOut sort (tpIn tp ∷ xs) [] = []
+handedOut sort (tpIn tp ∷ xs) (cs ∷ css) = inTp sort tp cs ++ handedOut sort xs css
+handedOut sort (gapTold ∷ xs) css = handedOut sort xs css
