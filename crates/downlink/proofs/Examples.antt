@@ -1,10 +1,11 @@
 -- Document 01's example 6 against the statement: what is due. So a receiver that hands out nothing there, one that idles after the
 -- first TP, and one that hands out a packet where none was sent, are shut out. Assumes nothing.
 use mathlib.Core.Path.{_≡_, refl}
+use mathlib.Core.Bool.{true, false, not}
 use mathlib.Core.List.{List, [], _∷_, flatten}
 use Prim.Native.Nat.{ℕ}
 use native.Mathlib.Omega.{arith}
-use lib.Dec.{leb}
+use lib.Dec.{leb, eqb}
 use lib.ListN.{replicate}
 use Rattle.golay.specs.Golay.{codeWord, chosen}
 use Rattle.wire.specs.Wire.{word, firstNumber, header, ep, streamByte, offsetNumber, tpHeader}
@@ -18,6 +19,7 @@ use Rattle.sender.specs.Run.{Tp, Call, ordinary, low, draw, World, Deed, took, 
 use Rattle.downlink.specs.Hearing.{Packet}
 use Rattle.downlink.specs.Due.{lowsOf, ordinariesOf, Right}
 use Rattle.downlink.specs.Demand.{wholeFrom}
+use Rattle.downlink.specs.Gaps.{through}
 use Rattle.downlink.proofs.Own.{unchanged}
 
 unfoldable pub room : List ℕ
@@ -98,3 +100,10 @@ pub fixed : (r : List ℕ) (p : Packet) (ps os : List Packet)
     → (From 0 (drew blank ∷ []) (r ∷ []) (p ∷ ps) os → ⊥) × (From 0 (drew blank ∷ []) (r ∷ []) os (p ∷ ps) → ⊥)
 unfolding blank part flatten
 fixed r p ps os = (λ x. x .low, λ x. x .ordinary)
+
+-- ---- with gaps in the middle
+
+-- a packet of twelve bytes, six in the first TP and six in the third; the second is full of low-latency packets. Where it is missing the
+-- packet is not due, though each of its bytes arrived.
+pub over-a-gap : (through (λ n. not (eqb n 1)) 0 (6 ∷ 0 ∷ 6 ∷ []) 0 12 ≡ false) × (through (λ n. true) 0 (6 ∷ 0 ∷ 6 ∷ []) 0 12 ≡ true)
+over-a-gap = (refl, refl)

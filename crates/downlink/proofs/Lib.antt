@@ -29,6 +29,7 @@ pub mod Calling
 pub mod Own
 pub mod Stretch
 pub mod Demanded
+pub mod Gapped
 -- beside it: calls end; no damage is within the limits; a packet's own places; who is shut out
 pub mod Soon
 pub mod Intact
