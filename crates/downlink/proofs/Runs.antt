@@ -13,16 +13,33 @@ use Rattle.queue.specs.Ring.{held}
 use Rattle.sender.specs.declared.Refusal.{Refusal}
 use Rattle.sender.specs.declared.Sender.{Sender}
 use Rattle.sender.specs.declared.Answer.the-variants.{Done, Refused}
+use Rattle.sender.specs.Offering.{wantOrdinary, ordinaryOffered, wantLow, lowOffered}
+use Rattle.sender.specs.Drawing as D
 use Rattle.sender.specs.Opening.{allowed, small, empty, fresh, opened}
 use Rattle.receiver.specs.Low.{wire}
-use Rattle.sender.specs.Run.{Call, ordinary, low, draw, World, Deed, refused, took, tookLow, drew, next, deed, deeds, left, undrawn}
+use Rattle.sender.specs.Run.{Call, ordinary, low, draw, lending, World, Deed, refused, took, tookLow, drew, lentOthers, ownLengths, next, deed, deeds, left, undrawn}
 use Rattle.downlink.specs.Hearing.{Packet}
 use Rattle.downlink.specs.Demand.{Fit}
 use Rattle.downlink.proofs.Window.{bytes, bytes-append}
 use Rattle.downlink.proofs.Marks.{Cells, Plain, Good}
 use Rattle.downlink.proofs.Loads.{Flows, none-done, then}
-use Rattle.downlink.proofs.Holds.{world, Facts, Holds, hold, Steps, low-step, ordinary-step}
+use Rattle.downlink.proofs.Holds.{world, Facts, Holds, hold, Steps, unchanged, low-step, ordinary-step}
 use Rattle.downlink.proofs.Draws.{draw-step}
+
+-- A call that lends a queue of another length than at opening changes nothing, whatever it asks.
+pub astray : (c : Call) (w : World) → ownLengths w (w .low) (w .ordinary) ≡ false → (deed w c ≡ refused) × (next w c .sender ≡ w .sender)
+unfolding ordinaryOffered wantOrdinary lowOffered wantLow D.drew
+astray (ordinary c d) w e = (rw e, rw e)
+astray (low c d) w e = (rw e, rw e)
+astray (draw b) w e = (rw e, rw e)
+astray (lending x y c) w e = go (ownLengths w x y) refl (astray c w e) (λ f. astray c (lentOthers w x y) f)
+  where
+    go : (t : Bool) → ownLengths w x y ≡ t → (deed w c ≡ refused) × (next w c .sender ≡ w .sender)
+        → (ownLengths w x y ≡ false → (deed (lentOthers w x y) c ≡ refused) × (next (lentOthers w x y) c .sender ≡ w .sender))
+        → (cond t (deed w c) (deed (lentOthers w x y) c) ≡ refused)
+        × (cond t (next w c) (record { sender = next (lentOthers w x y) c .sender; low = w .low; ordinary = w .ordinary }) .sender ≡ w .sender)
+    go true f own others = own
+    go false f own others = others f
 
 fit-cons : (n : ℕ) (d : Deed) (ds : List Deed) → Fit n (d ∷ []) → Fit n ds → Fit n (d ∷ ds)
 fit-cons n refused ds p q = q
@@ -41,6 +58,24 @@ module _ (P str F ls os : ℕ) (top : P ≤ 2047) (piece₁ : 1 ≤ F) (piece₂
   one-in lows pend l o ow re lb ob oc qc f (ordinary c d) = ordinary-step P str F ls os top piece₁ piece₂ lows pend l o ow re lb ob oc qc f c d
   one-in lows pend l o ow re lb ob oc qc f (low c d) = low-step P str F ls os top piece₁ piece₂ lows pend l o ow re lb ob oc qc f c d
   one-in lows pend l o ow re lb ob oc qc f (draw b) = draw-step P str F ls os top piece₁ piece₂ lows pend l o ow re lb ob oc qc f b
+  one-in lows pend l o ow re lb ob oc qc f (lending x y c) = go (ownLengths W x y) refl (one-in lows pend l o ow re lb ob oc qc f c)
+    where
+      W : World
+      W = world P str F ls os top piece₁ piece₂ l o ow re lb ob
+
+      U : World
+      U = lentOthers W x y
+
+      here : Has W lows pend
+      here = hold P str F ls os top piece₁ piece₂ lows pend l o ow re lb ob oc qc f
+
+      go : (t : Bool) → ownLengths W x y ≡ t → Steps P str F ls os top piece₁ piece₂ (next W c) (deed W c) lows pend
+          → Steps P str F ls os top piece₁ piece₂ (cond t (next W c) (record { sender = next U c .sender; low = lb; ordinary = ob })) (cond t (deed W c) (deed U c)) lows pend
+      go true e own = own
+      go false e own =
+          let a = astray c U e in
+          subst⁻¹ (λ (s : Sender). Steps P str F ls os top piece₁ piece₂ (record { sender = s; low = lb; ordinary = ob }) (deed U c) lows pend) (a .1)
+          (subst⁻¹ (λ (d : Deed). Steps P str F ls os top piece₁ piece₂ W d lows pend) (a .0) (unchanged P str F ls os top piece₁ piece₂ W lows pend here))
 
   one : (w : World) (lows : List Packet) (pend : Cells) (c : Call) → Has w lows pend
       → Steps P str F ls os top piece₁ piece₂ (next w c) (deed w c) lows pend

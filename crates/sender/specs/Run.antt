@@ -1,5 +1,7 @@
 -- A sender run over any calls, by the definitions that its contracts cite (document 01, "Sender"), in queue buffers that nobody else
--- writes. A draw may be lent a buffer of any length: another than the TP length is refused. Assumes nothing.
+-- writes. A call may lend buffers of any length: where one is another than the TP length, or than a queue's at opening, it is refused.
+-- Assumes nothing.
+use mathlib.Core.Bool.{Bool, cond}
 use mathlib.Core.List.{List, [], _∷_, _++_}
 use Prim.Native.Nat.{ℕ, suc, _-_}
 use lib.ListN.{length, replicate}
@@ -7,14 +9,17 @@ use Rattle.queue.specs.Ring.{held}
 use Rattle.sender.specs.declared.Sender.{Sender}
 use Rattle.sender.specs.declared.Answer.{Answer}
 use Rattle.sender.specs.declared.Answer.the-variants.{Done, Refused}
+use Rattle.sender.specs.Answers.{lent}
 use Rattle.sender.specs.Offering.{ordinaryOffered, lowOffered}
 use Rattle.sender.specs.Drawing as D
 use Rattle.sender.specs.Drawing.{leave, part, lacking}
 
--- an offer of this content and data, or a draw into this buffer
+-- an offer of this content and data, or a draw into this buffer, with the queue buffers of the opening; any of these with such buffers
+-- lent for the low-latency and the ordinary queue
 pub data Call : Type 0 where
   ordinary low : ℕ → List ℕ → Call
   draw : List ℕ → Call
+  lending : List ℕ → List ℕ → Call → Call
 
 -- a sender and its two queue buffers
 pub record World : Type 0 where
@@ -47,6 +52,14 @@ abbrev pub kept : Sender → Answer → Sender
 kept s (Done t) = t
 kept s (Refused k) = s
 
+-- the same sender, lent these buffers
+abbrev pub lentOthers : World → List ℕ → List ℕ → World
+lentOthers w l o = record { sender = w .sender; low = l; ordinary = o }
+
+-- "Each call takes the buffers of the opening": buffers of its lengths are they; a call with others leaves them as they are
+abbrev pub ownLengths : World → List ℕ → List ℕ → Bool
+ownLengths w l o = lent (w .sender .setting) (length l) (length o)
+
 abbrev pub next : World → Call → World
 next w (ordinary c d) =
     let x = ordinaryOffered (w .sender) (w .low) (w .ordinary) c d in
@@ -55,6 +68,8 @@ next w (low c d) =
     let x = lowOffered (w .sender) (w .low) (w .ordinary) c d in
     record { sender = kept (w .sender) (x .answer); low = x .buffer; ordinary = w .ordinary }
 next w (draw b) = record { sender = kept (w .sender) (D.drew (w .sender) (w .low) (w .ordinary) b .answer); low = w .low; ordinary = w .ordinary }
+next w (lending l o c) =
+    cond (ownLengths w l o) (next w c) (record { sender = next (lentOthers w l o) c .sender; low = w .low; ordinary = w .ordinary })
 
 abbrev pub unless : Answer → Deed → Deed
 unless (Done s) d = d
@@ -66,6 +81,7 @@ deed w (low c d) = unless (lowOffered (w .sender) (w .low) (w .ordinary) c d .an
 deed w (draw b) =
     let x = D.drew (w .sender) (w .low) (w .ordinary) b in
     unless (x .answer) (drew (record { bytes = x .buffer; lleps = leaving w; fill = filling w }))
+deed w (lending l o c) = cond (ownLengths w l o) (deed w c) (deed (lentOthers w l o) c)
 
 abbrev pub deeds : World → List Call → List Deed
 deeds w [] = []
