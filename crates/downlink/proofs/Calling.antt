@@ -142,7 +142,7 @@ calls-are tp (c ∷ cs) x (gives, then) = go (ends (c .step .find)) refl then (�
         (C.more gives (not-ended (c .step .find) e) (ih more))
 
 -- the receiver can be called again
-able-on : (tp : List ℕ) (cs : List Called) (x : Listener) → Calls tp x cs → Able (onward x cs .receiver)
+pub able-on : (tp : List ℕ) (cs : List Called) (x : Listener) → Calls tp x cs → Able (onward x cs .receiver)
 able-on tp [] x calls = absurd calls
 able-on tp (c ∷ cs) x (gives, then) = go (ends (c .step .find)) then (λ z. able-on tp cs x′ z)
   where
@@ -153,7 +153,7 @@ able-on tp (c ∷ cs) x (gives, then) = go (ends (c .step .find)) then (λ z. ab
     go true none ih = subst⁻¹ (λ (ys : List Called). Able (onward x′ ys .receiver)) none (gives .able)
     go false more ih = ih more
 
-able-told : (r : Receiver) → Able r → Able (gapOf r)
+pub able-told : (r : Receiver) → Able r → Able (gapOf r)
 able-told r a = record { size = a .size; walk = record { at = omega arith; phase = omega arith }; stage = omega arith }
 
 -- all of it, and where the receiver stands at the end

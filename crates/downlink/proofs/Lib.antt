@@ -30,8 +30,12 @@ pub mod Own
 pub mod Stretch
 pub mod Demanded
 pub mod Gapped
--- beside it: calls end; no damage is within the limits; a packet's own places; who is shut out
+-- beside it: calls end, and there are some; no damage is within the limits; a packet's own places; who is shut out
 pub mod Soon
+pub mod Rests
+pub mod Pulls
+pub mod Carried
+pub mod Exist
 pub mod Intact
 pub mod Places
 pub mod Examples
