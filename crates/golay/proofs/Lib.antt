@@ -5,4 +5,4 @@ pub mod Table
 pub mod Decoder
 pub mod Ends
 pub mod Theorems
-pub mod Pairs
+pub mod Lookups

@@ -35,6 +35,10 @@ distance v w = weight (bitXor v w)
 unfoldable pub byteDistance : ℕ → ℕ → ℕ
 byteDistance a b = onesIn 8 (bitXor a b)
 
+-- the sum of what three tables of sixteen have at a number's bits 11 to 8, 7 to 4 and 3 to 0
+unfoldable pub summed : List ℕ → List ℕ → List ℕ → ℕ → ℕ
+summed xs ys zs n = bitXor (bitXor (getD xs (n / 256 % 16) 0) (getD ys (n / 16 % 16) 0)) (getD zs (n % 16) 0)
+
 -- ---- the syndrome, by which the table of corrections is indexed (A.3)
 
 -- the parity check rows

@@ -1,9 +1,10 @@
 // Two numbers encoded at once, as an EP header asks.
 ghost use mathlib.Core.Path.{_≡_};
-ghost use Prim.Native.Nat.{ℕ, _+_, _*_, _/_, _<_};
-ghost use lib.ListN.{getD};
-ghost use Rattle.golay.specs.Golay.{chosen, codeWord};
-use crate::ROWS;
+ghost use Rattle.golay.specs.Golay.{codeWord};
+use crate::parities;
+use crate::parities::HIGH;
+use crate::parities::LOW;
+use crate::parities::MIDDLE;
 
 // The code words of two numbers.
 pub struct Pair {
@@ -11,25 +12,14 @@ pub struct Pair {
     pub second: u32,
 }
 
-// What the one bits of x choose, and 16 bits further on what those of its upper half choose: both go by one product.
-fn both_combined(rows: [u16; 12], x: u32) -> u32
-    requires { ⌜ ((i : ℕ) → getD rows i 0 < 4096) ⌝ }
-    ensures { λ r. ⌜ r ≡ chosen rows (x / 65536) * 65536 + chosen rows x ⌝ }
-{
-    let mut sum: u32 = 0;
-    for i in 0..12 {
-        let y = x >> (11 - i);
-        sum ^= (y / 65536 % 2 * 65536 + y % 2) * rows[i] as u32;
-    }
-    sum
-}
-
 pub fn encode_pair(a: u16, b: u16) -> Pair
     ensures { λ r. ⌜ r ≡ record { first = codeWord a; second = codeWord b } ⌝ }
 {
-    let sum = both_combined(ROWS, a as u32 * 65536 + b as u32);
+    let high = HIGH;
+    let middle = MIDDLE;
+    let low = LOW;
     Pair {
-        first: (a % 4096) as u32 * 4096 + sum / 65536,
-        second: (b % 4096) as u32 * 4096 + sum % 65536,
+        first: (a % 4096) as u32 * 4096 + parities::summed(&high, &middle, &low, a) as u32,
+        second: (b % 4096) as u32 * 4096 + parities::summed(&high, &middle, &low, b) as u32,
     }
 }
