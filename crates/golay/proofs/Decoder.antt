@@ -1,6 +1,6 @@
 -- What a word's syndrome, and the table's entry at it, say of the word.
 -- Assumes nothing.
-use mathlib.Core.Path.{_≡_, sym, ap, _∙_}
+use mathlib.Core.Path.{_≡_, sym, _∙_}
 use mathlib.Core.Logic.{⊎-elim}
 use Prim.Native.Nat.{ℕ, suc, _/_, _%_, _^_, _≤_, _<_}
 use native.Mathlib.Nat.{mod-lt, mod-eq-of-lt, lt-of-not-le, le-of-suc-le-suc}
@@ -8,11 +8,11 @@ use native.Mathlib.Omega.{arith}
 use lib.Bits.{bitXor, xor-lt, xor-zero-r}
 use lib.Count.{ones, onesIn}
 use lib.Dec.{eqb, lit<, lit≤}
-use Rattle.golay.specs.Golay.{high, low, checks, chosen, parity, codeWord, weight, distance, syndrome}
+use Rattle.golay.specs.Golay.{high, low, checks, chosen, codeWord, weight, distance, syndrome}
 use Rattle.golay.specs.Answers.{Corrects, Nearest, Decodes}
 use Rattle.golay.specs.declared.Decoded.the-variants.{Word}
-use Rattle.golay.proofs.Xor.{xor-test, within, chosen-lt, ones-all, ones-in}
-use Rattle.golay.proofs.Words.{alone, parity-lt, all-before, all-behind, repaired}
+use Rattle.golay.proofs.Xor.{xor-test, within, chosen-lt, ones-in}
+use Rattle.golay.proofs.Words.{alone, repaired}
 
 -- a code word within four flips is a nearest one
 pub nearest : (w n c : ℕ) → n < 4096 → distance w (codeWord n) ≡ c → c ≤ 4 → Nearest w c
@@ -60,26 +60,6 @@ intact w e = (mod-lt (w / 4096) (lit< tt), rw (xor-zero-r (high w)) at (repaired
 pub tried : (w n c : ℕ) → n < 4096 → c ≡ distance w (codeWord n) → c ≤ 3 → Decodes w (Word n c)
 unfolding Decodes
 tried w n c lt e few = (lt, sym e, few)
-
--- where one half alone was flipped, the ones of the syndrome or of its parity are the flips
-module _ (w n s c : ℕ) (half : n ≡ high w) (check : s ≡ syndrome w) (few : c ≤ 3) where
-  s-lt : s < 4096
-  s-lt = rw check (syndrome-lt w)
-
-  n-lt : n < 4096
-  n-lt = rw half (mod-lt (w / 4096) (lit< tt))
-
-  pub before : c ≡ ones s → Decodes w (Word (bitXor n s) c)
-  before count =
-      tried w (bitXor n s) c (xor-lt 12 n s n-lt s-lt)
-      (count ∙ ones-all 12 s s-lt ∙ rw (half, check) (sym (all-before w)))
-      few
-
-  pub behind : (d : ℕ) → d ≡ parity s → c ≡ ones d → Decodes w (Word n c)
-  behind d code count =
-      tried w n c n-lt
-      (count ∙ ap ones code ∙ ones-all 12 (parity s) (parity-lt s) ∙ rw (half, check) (sym (all-behind w)))
-      few
 
 -- what the entry says to flip, and how many flips that makes
 pub repairs : (w n x c : ℕ) → n ≡ high w → Corrects (syndrome w) x → (x ≡ 0xFFFF → ⊥) → c ≡ distance w (codeWord (bitXor n x))

@@ -1,6 +1,11 @@
 // Made by tools/corrections.
-// What to flip in the number, for each syndrome; 0xFFFF where no error of at most three flips has it.
-pub const CORRECTIONS: [u16; 4096] = [
+// What to flip in the number, for each syndrome, in rows of 64; 0xFFFF where no error of at most three flips has it.
+ghost use mathlib.Core.Path.{_≡_};
+ghost use Prim.Native.Nat.{_%_, _<_};
+ghost use Rattle.golay.specs.Golay.{entryOf};
+ghost use Rattle.golay.specs.Answers.{Corrects};
+
+const ROW_0: [u16; 64] = [
     0x0000,
     0x0001,
     0x0002,
@@ -65,6 +70,9 @@ pub const CORRECTIONS: [u16; 4096] = [
     0x0000,
     0x0900,
     0xFFFF,
+];
+
+const ROW_1: [u16; 64] = [
     0x0040,
     0x0041,
     0x0042,
@@ -129,6 +137,9 @@ pub const CORRECTIONS: [u16; 4096] = [
     0xFFFF,
     0xFFFF,
     0x0004,
+];
+
+const ROW_2: [u16; 64] = [
     0x0080,
     0x0081,
     0x0082,
@@ -193,6 +204,9 @@ pub const CORRECTIONS: [u16; 4096] = [
     0xFFFF,
     0xFFFF,
     0x0420,
+];
+
+const ROW_3: [u16; 64] = [
     0x00C0,
     0x00C1,
     0x00C2,
@@ -257,6 +271,9 @@ pub const CORRECTIONS: [u16; 4096] = [
     0x0110,
     0x0008,
     0xFFFF,
+];
+
+const ROW_4: [u16; 64] = [
     0x0100,
     0x0101,
     0x0102,
@@ -321,6 +338,9 @@ pub const CORRECTIONS: [u16; 4096] = [
     0xFFFF,
     0x0800,
     0x0801,
+];
+
+const ROW_5: [u16; 64] = [
     0x0140,
     0x0141,
     0x0142,
@@ -385,6 +405,9 @@ pub const CORRECTIONS: [u16; 4096] = [
     0x0090,
     0x0840,
     0xFFFF,
+];
+
+const ROW_6: [u16; 64] = [
     0x0180,
     0x0181,
     0x0182,
@@ -449,6 +472,9 @@ pub const CORRECTIONS: [u16; 4096] = [
     0x0050,
     0x0880,
     0xFFFF,
+];
+
+const ROW_7: [u16; 64] = [
     0x01C0,
     0xFFFF,
     0xFFFF,
@@ -513,6 +539,9 @@ pub const CORRECTIONS: [u16; 4096] = [
     0x0010,
     0xFFFF,
     0x0012,
+];
+
+const ROW_8: [u16; 64] = [
     0x0200,
     0x0201,
     0x0202,
@@ -577,6 +606,9 @@ pub const CORRECTIONS: [u16; 4096] = [
     0xFFFF,
     0xFFFF,
     0x0008,
+];
+
+const ROW_9: [u16; 64] = [
     0x0240,
     0x0241,
     0x0242,
@@ -641,6 +673,9 @@ pub const CORRECTIONS: [u16; 4096] = [
     0x0001,
     0x0002,
     0xFFFF,
+];
+
+const ROW_10: [u16; 64] = [
     0x0280,
     0x0281,
     0x0282,
@@ -705,6 +740,9 @@ pub const CORRECTIONS: [u16; 4096] = [
     0x0804,
     0x0010,
     0xFFFF,
+];
+
+const ROW_11: [u16; 64] = [
     0x02C0,
     0xFFFF,
     0xFFFF,
@@ -769,6 +807,9 @@ pub const CORRECTIONS: [u16; 4096] = [
     0xFFFF,
     0xFFFF,
     0x0000,
+];
+
+const ROW_12: [u16; 64] = [
     0x0300,
     0x0301,
     0x0302,
@@ -833,6 +874,9 @@ pub const CORRECTIONS: [u16; 4096] = [
     0x0020,
     0x0A00,
     0xFFFF,
+];
+
+const ROW_13: [u16; 64] = [
     0x0340,
     0xFFFF,
     0xFFFF,
@@ -897,6 +941,9 @@ pub const CORRECTIONS: [u16; 4096] = [
     0xFFFF,
     0xFFFF,
     0x0400,
+];
+
+const ROW_14: [u16; 64] = [
     0x0380,
     0xFFFF,
     0xFFFF,
@@ -961,6 +1008,9 @@ pub const CORRECTIONS: [u16; 4096] = [
     0xFFFF,
     0xFFFF,
     0x0000,
+];
+
+const ROW_15: [u16; 64] = [
     0xFFFF,
     0x0800,
     0x0018,
@@ -1025,6 +1075,9 @@ pub const CORRECTIONS: [u16; 4096] = [
     0x0210,
     0x0024,
     0xFFFF,
+];
+
+const ROW_16: [u16; 64] = [
     0x0400,
     0x0401,
     0x0402,
@@ -1089,6 +1142,9 @@ pub const CORRECTIONS: [u16; 4096] = [
     0xFFFF,
     0xFFFF,
     0x00A0,
+];
+
+const ROW_17: [u16; 64] = [
     0x0440,
     0x0441,
     0x0442,
@@ -1153,6 +1209,9 @@ pub const CORRECTIONS: [u16; 4096] = [
     0x0808,
     0x0010,
     0xFFFF,
+];
+
+const ROW_18: [u16; 64] = [
     0x0480,
     0x0481,
     0x0482,
@@ -1217,6 +1276,9 @@ pub const CORRECTIONS: [u16; 4096] = [
     0x0022,
     0x0021,
     0x0020,
+];
+
+const ROW_19: [u16; 64] = [
     0x04C0,
     0xFFFF,
     0xFFFF,
@@ -1281,6 +1343,9 @@ pub const CORRECTIONS: [u16; 4096] = [
     0xFFFF,
     0xFFFF,
     0x0060,
+];
+
+const ROW_20: [u16; 64] = [
     0x0500,
     0x0501,
     0x0502,
@@ -1345,6 +1410,9 @@ pub const CORRECTIONS: [u16; 4096] = [
     0x0004,
     0x0C00,
     0xFFFF,
+];
+
+const ROW_21: [u16; 64] = [
     0x0540,
     0xFFFF,
     0xFFFF,
@@ -1409,6 +1477,9 @@ pub const CORRECTIONS: [u16; 4096] = [
     0xFFFF,
     0xFFFF,
     0x0200,
+];
+
+const ROW_22: [u16; 64] = [
     0x0580,
     0xFFFF,
     0xFFFF,
@@ -1473,6 +1544,9 @@ pub const CORRECTIONS: [u16; 4096] = [
     0xFFFF,
     0xFFFF,
     0x0120,
+];
+
+const ROW_23: [u16; 64] = [
     0xFFFF,
     0x0010,
     0x0804,
@@ -1537,6 +1611,9 @@ pub const CORRECTIONS: [u16; 4096] = [
     0x0410,
     0x0000,
     0xFFFF,
+];
+
+const ROW_24: [u16; 64] = [
     0x0600,
     0x0601,
     0x0602,
@@ -1601,6 +1678,9 @@ pub const CORRECTIONS: [u16; 4096] = [
     0x0010,
     0x0004,
     0xFFFF,
+];
+
+const ROW_25: [u16; 64] = [
     0x0640,
     0xFFFF,
     0xFFFF,
@@ -1665,6 +1745,9 @@ pub const CORRECTIONS: [u16; 4096] = [
     0xFFFF,
     0xFFFF,
     0x0100,
+];
+
+const ROW_26: [u16; 64] = [
     0x0680,
     0xFFFF,
     0xFFFF,
@@ -1729,6 +1812,9 @@ pub const CORRECTIONS: [u16; 4096] = [
     0xFFFF,
     0xFFFF,
     0x0220,
+];
+
+const ROW_27: [u16; 64] = [
     0xFFFF,
     0x0022,
     0x0021,
@@ -1793,6 +1879,9 @@ pub const CORRECTIONS: [u16; 4096] = [
     0x0000,
     0x0800,
     0xFFFF,
+];
+
+const ROW_28: [u16; 64] = [
     0x0700,
     0xFFFF,
     0xFFFF,
@@ -1857,6 +1946,9 @@ pub const CORRECTIONS: [u16; 4096] = [
     0xFFFF,
     0xFFFF,
     0x0040,
+];
+
+const ROW_29: [u16; 64] = [
     0xFFFF,
     0x0004,
     0x0000,
@@ -1921,6 +2013,9 @@ pub const CORRECTIONS: [u16; 4096] = [
     0x0002,
     0x0001,
     0x0000,
+];
+
+const ROW_30: [u16; 64] = [
     0xFFFF,
     0x0008,
     0x0000,
@@ -1985,6 +2080,9 @@ pub const CORRECTIONS: [u16; 4096] = [
     0x0009,
     0x000A,
     0xFFFF,
+];
+
+const ROW_31: [u16; 64] = [
     0x0000,
     0xFFFF,
     0xFFFF,
@@ -2049,6 +2147,9 @@ pub const CORRECTIONS: [u16; 4096] = [
     0xFFFF,
     0xFFFF,
     0x0080,
+];
+
+const ROW_32: [u16; 64] = [
     0x0800,
     0x0801,
     0x0802,
@@ -2113,6 +2214,9 @@ pub const CORRECTIONS: [u16; 4096] = [
     0xFFFF,
     0x0100,
     0x0101,
+];
+
+const ROW_33: [u16; 64] = [
     0x0840,
     0x0841,
     0x0842,
@@ -2177,6 +2281,9 @@ pub const CORRECTIONS: [u16; 4096] = [
     0x0408,
     0x0140,
     0xFFFF,
+];
+
+const ROW_34: [u16; 64] = [
     0x0880,
     0x0881,
     0x0882,
@@ -2241,6 +2348,9 @@ pub const CORRECTIONS: [u16; 4096] = [
     0x0204,
     0x0180,
     0xFFFF,
+];
+
+const ROW_35: [u16; 64] = [
     0x08C0,
     0xFFFF,
     0xFFFF,
@@ -2305,6 +2415,9 @@ pub const CORRECTIONS: [u16; 4096] = [
     0xFFFF,
     0xFFFF,
     0x0000,
+];
+
+const ROW_36: [u16; 64] = [
     0x0900,
     0x0901,
     0x0902,
@@ -2369,6 +2482,9 @@ pub const CORRECTIONS: [u16; 4096] = [
     0x0003,
     0x0000,
     0x0001,
+];
+
+const ROW_37: [u16; 64] = [
     0x0940,
     0xFFFF,
     0xFFFF,
@@ -2433,6 +2549,9 @@ pub const CORRECTIONS: [u16; 4096] = [
     0xFFFF,
     0x0040,
     0x0041,
+];
+
+const ROW_38: [u16; 64] = [
     0x0980,
     0xFFFF,
     0xFFFF,
@@ -2497,6 +2616,9 @@ pub const CORRECTIONS: [u16; 4096] = [
     0xFFFF,
     0x0080,
     0x0081,
+];
+
+const ROW_39: [u16; 64] = [
     0xFFFF,
     0x0200,
     0x0404,
@@ -2561,6 +2683,9 @@ pub const CORRECTIONS: [u16; 4096] = [
     0x0810,
     0x00C0,
     0xFFFF,
+];
+
+const ROW_40: [u16; 64] = [
     0x0A00,
     0x0A01,
     0x0A02,
@@ -2625,6 +2750,9 @@ pub const CORRECTIONS: [u16; 4096] = [
     0x0084,
     0x0300,
     0xFFFF,
+];
+
+const ROW_41: [u16; 64] = [
     0x0A40,
     0xFFFF,
     0xFFFF,
@@ -2689,6 +2817,9 @@ pub const CORRECTIONS: [u16; 4096] = [
     0xFFFF,
     0xFFFF,
     0x0030,
+];
+
+const ROW_42: [u16; 64] = [
     0x0A80,
     0xFFFF,
     0xFFFF,
@@ -2753,6 +2884,9 @@ pub const CORRECTIONS: [u16; 4096] = [
     0x0004,
     0xFFFF,
     0x0006,
+];
+
+const ROW_43: [u16; 64] = [
     0xFFFF,
     0x0100,
     0x0000,
@@ -2817,6 +2951,9 @@ pub const CORRECTIONS: [u16; 4096] = [
     0x0044,
     0x0400,
     0xFFFF,
+];
+
+const ROW_44: [u16; 64] = [
     0x0B00,
     0xFFFF,
     0xFFFF,
@@ -2881,6 +3018,9 @@ pub const CORRECTIONS: [u16; 4096] = [
     0xFFFF,
     0x0200,
     0x0201,
+];
+
+const ROW_45: [u16; 64] = [
     0xFFFF,
     0x0080,
     0x0000,
@@ -2945,6 +3085,9 @@ pub const CORRECTIONS: [u16; 4096] = [
     0x0000,
     0x0240,
     0xFFFF,
+];
+
+const ROW_46: [u16; 64] = [
     0xFFFF,
     0x0040,
     0x0020,
@@ -3009,6 +3152,9 @@ pub const CORRECTIONS: [u16; 4096] = [
     0x0104,
     0x0280,
     0xFFFF,
+];
+
+const ROW_47: [u16; 64] = [
     0x0001,
     0x0000,
     0xFFFF,
@@ -3073,6 +3219,9 @@ pub const CORRECTIONS: [u16; 4096] = [
     0xFFFF,
     0xFFFF,
     0x0008,
+];
+
+const ROW_48: [u16; 64] = [
     0x0C00,
     0x0C01,
     0x0C02,
@@ -3137,6 +3286,9 @@ pub const CORRECTIONS: [u16; 4096] = [
     0x0048,
     0x0500,
     0xFFFF,
+];
+
+const ROW_49: [u16; 64] = [
     0x0C40,
     0xFFFF,
     0xFFFF,
@@ -3201,6 +3353,9 @@ pub const CORRECTIONS: [u16; 4096] = [
     0x0008,
     0xFFFF,
     0x000A,
+];
+
+const ROW_50: [u16; 64] = [
     0x0C80,
     0xFFFF,
     0xFFFF,
@@ -3265,6 +3420,9 @@ pub const CORRECTIONS: [u16; 4096] = [
     0xFFFF,
     0xFFFF,
     0x0820,
+];
+
+const ROW_51: [u16; 64] = [
     0xFFFF,
     0x0008,
     0x0104,
@@ -3329,6 +3487,9 @@ pub const CORRECTIONS: [u16; 4096] = [
     0x0088,
     0x0200,
     0xFFFF,
+];
+
+const ROW_52: [u16; 64] = [
     0x0D00,
     0xFFFF,
     0xFFFF,
@@ -3393,6 +3554,9 @@ pub const CORRECTIONS: [u16; 4096] = [
     0xFFFF,
     0x0400,
     0x0401,
+];
+
+const ROW_53: [u16; 64] = [
     0xFFFF,
     0x0000,
     0x0084,
@@ -3457,6 +3621,9 @@ pub const CORRECTIONS: [u16; 4096] = [
     0x0108,
     0x0440,
     0xFFFF,
+];
+
+const ROW_54: [u16; 64] = [
     0xFFFF,
     0x0020,
     0x0044,
@@ -3521,6 +3688,9 @@ pub const CORRECTIONS: [u16; 4096] = [
     0x0000,
     0x0480,
     0xFFFF,
+];
+
+const ROW_55: [u16; 64] = [
     0x0006,
     0xFFFF,
     0x0004,
@@ -3585,6 +3755,9 @@ pub const CORRECTIONS: [u16; 4096] = [
     0xFFFF,
     0xFFFF,
     0x0004,
+];
+
+const ROW_56: [u16; 64] = [
     0x0E00,
     0xFFFF,
     0xFFFF,
@@ -3649,6 +3822,9 @@ pub const CORRECTIONS: [u16; 4096] = [
     0xFFFF,
     0xFFFF,
     0x0000,
+];
+
+const ROW_57: [u16; 64] = [
     0xFFFF,
     0x0000,
     0x0000,
@@ -3713,6 +3889,9 @@ pub const CORRECTIONS: [u16; 4096] = [
     0x0208,
     0x0080,
     0xFFFF,
+];
+
+const ROW_58: [u16; 64] = [
     0xFFFF,
     0x0004,
     0x0008,
@@ -3777,6 +3956,9 @@ pub const CORRECTIONS: [u16; 4096] = [
     0x0404,
     0x0040,
     0xFFFF,
+];
+
+const ROW_59: [u16; 64] = [
     0x0010,
     0xFFFF,
     0xFFFF,
@@ -3841,6 +4023,9 @@ pub const CORRECTIONS: [u16; 4096] = [
     0xFFFF,
     0x0000,
     0x0001,
+];
+
+const ROW_60: [u16; 64] = [
     0xFFFF,
     0x0012,
     0x0011,
@@ -3905,6 +4090,9 @@ pub const CORRECTIONS: [u16; 4096] = [
     0x0000,
     0x0600,
     0xFFFF,
+];
+
+const ROW_61: [u16; 64] = [
     0x0028,
     0xFFFF,
     0xFFFF,
@@ -3969,6 +4157,9 @@ pub const CORRECTIONS: [u16; 4096] = [
     0xFFFF,
     0xFFFF,
     0x0800,
+];
+
+const ROW_62: [u16; 64] = [
     0x0000,
     0xFFFF,
     0xFFFF,
@@ -4033,6 +4224,9 @@ pub const CORRECTIONS: [u16; 4096] = [
     0xFFFF,
     0xFFFF,
     0x0010,
+];
+
+const ROW_63: [u16; 64] = [
     0xFFFF,
     0x0400,
     0x0204,
@@ -4098,3 +4292,84 @@ pub const CORRECTIONS: [u16; 4096] = [
     0x0100,
     0xFFFF,
 ];
+
+// A function of its own, so that the contract names the row's list and no copy of it.
+fn entry(row: [u16; 64], s: u16) -> u16
+    ensures { λ r. ⌜ r ≡ entryOf row (s % 64) ⌝ }
+{
+    row[(s % 64) as usize]
+}
+
+// What to flip in the number at this syndrome. The compiler copies a constant array at each read: here one row.
+pub fn correction(s: u16) -> u16
+    requires { ⌜ s < 4096 ⌝ }
+    ensures { λ r. ⌜ Corrects s r ⌝ }
+{
+    let row = s / 64;
+    match row {
+        0 => entry(ROW_0, s),
+        1 => entry(ROW_1, s),
+        2 => entry(ROW_2, s),
+        3 => entry(ROW_3, s),
+        4 => entry(ROW_4, s),
+        5 => entry(ROW_5, s),
+        6 => entry(ROW_6, s),
+        7 => entry(ROW_7, s),
+        8 => entry(ROW_8, s),
+        9 => entry(ROW_9, s),
+        10 => entry(ROW_10, s),
+        11 => entry(ROW_11, s),
+        12 => entry(ROW_12, s),
+        13 => entry(ROW_13, s),
+        14 => entry(ROW_14, s),
+        15 => entry(ROW_15, s),
+        16 => entry(ROW_16, s),
+        17 => entry(ROW_17, s),
+        18 => entry(ROW_18, s),
+        19 => entry(ROW_19, s),
+        20 => entry(ROW_20, s),
+        21 => entry(ROW_21, s),
+        22 => entry(ROW_22, s),
+        23 => entry(ROW_23, s),
+        24 => entry(ROW_24, s),
+        25 => entry(ROW_25, s),
+        26 => entry(ROW_26, s),
+        27 => entry(ROW_27, s),
+        28 => entry(ROW_28, s),
+        29 => entry(ROW_29, s),
+        30 => entry(ROW_30, s),
+        31 => entry(ROW_31, s),
+        32 => entry(ROW_32, s),
+        33 => entry(ROW_33, s),
+        34 => entry(ROW_34, s),
+        35 => entry(ROW_35, s),
+        36 => entry(ROW_36, s),
+        37 => entry(ROW_37, s),
+        38 => entry(ROW_38, s),
+        39 => entry(ROW_39, s),
+        40 => entry(ROW_40, s),
+        41 => entry(ROW_41, s),
+        42 => entry(ROW_42, s),
+        43 => entry(ROW_43, s),
+        44 => entry(ROW_44, s),
+        45 => entry(ROW_45, s),
+        46 => entry(ROW_46, s),
+        47 => entry(ROW_47, s),
+        48 => entry(ROW_48, s),
+        49 => entry(ROW_49, s),
+        50 => entry(ROW_50, s),
+        51 => entry(ROW_51, s),
+        52 => entry(ROW_52, s),
+        53 => entry(ROW_53, s),
+        54 => entry(ROW_54, s),
+        55 => entry(ROW_55, s),
+        56 => entry(ROW_56, s),
+        57 => entry(ROW_57, s),
+        58 => entry(ROW_58, s),
+        59 => entry(ROW_59, s),
+        60 => entry(ROW_60, s),
+        61 => entry(ROW_61, s),
+        62 => entry(ROW_62, s),
+        _ => entry(ROW_63, s),
+    }
+}

@@ -1,8 +1,11 @@
--- `golay::decode` meets its contract: a word of syndrome 0 is intact, and any other is repaired.
--- Assumes nothing.
-use mathlib.Core.Path.{sym, _∙_}
+-- `golay::decode` meets its contract: a word of syndrome 0 is intact; for any other the table's entry at its syndrome says what
+-- to flip, and the count is the distance itself. Assumes nothing.
+use mathlib.Core.Path.{sym, refl, _∙_}
+use native.Mathlib.Omega.{arith}
 use borrow.Author.Needs.{needs}
-use Rattle.golay.proofs.Decoder.{intact}
+use Rattle.golay.specs.Golay.{syndrome}
+use Rattle.golay.specs.Answers.{Corrects, Decodes}
+use Rattle.golay.proofs.Decoder.{syndrome-lt, intact, far, repairs}
 use Rattle.golay.proofs.decode.Statement.{statement}
 use Rattle.golay.proofs.decode.Tie as tie
 
@@ -15,13 +18,40 @@ syndrome-of-requires c κs = search needs
 returns : tie.Need-returns
 returns c = intact (c .before .before .args .w) (sym (c .before .syndrome-of .ensures) ∙ c .if1 .taken)
 
-repaired-requires : tie.Need-repaired-requires
-repaired-requires c κs = search needs
+correction-requires : tie.Need-correction-requires
+correction-requires c κs = rw (c .before .syndrome-of .ensures) (syndrome-lt (c .before .before .args .w))
+
+-- the table's entry is the one for the word's syndrome
+entry : (c : tie.After-correction) → Corrects (syndrome (c .before .before .before .args .w)) (c .correction .result)
+entry c = rw (c .before .before .syndrome-of .ensures) at (c .correction .ensures)
 
 returns-2 : tie.Need-returns-2
-returns-2 c = search needs
+unfolding Decodes
+returns-2 c =
+    let a = c .before in
+    far (a .before .before .before .args .w) (a .correction .result) (entry a) (c .if2 .taken)
+
+flips-to-requires : tie.Need-flips-to-requires
+flips-to-requires c κs = search needs
+
+returns-3 : tie.Need-returns-3
+returns-3 c =
+    let a = c .before .before in
+    repairs (a .before .before .before .args .w) _ (a .correction .result) (c .flips-to .result) refl (entry a) (c .before .if2 .left) (c .flips-to .ensures)
+
+cast-t10 : tie.Need-cast-t10
+unfolding Decodes
+cast-t10 c = omega (arith, returns-3 c .2)
 
 pub decode-spec : {M : Type 1} → statement M
 decode-spec =
     tie.close
-    (tie.spec cast-number syndrome-of-requires returns repaired-requires returns-2)
+    (tie.spec
+    cast-number
+    syndrome-of-requires
+    returns
+    correction-requires
+    returns-2
+    flips-to-requires
+    cast-t10
+    returns-3)
