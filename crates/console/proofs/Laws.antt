@@ -7,7 +7,7 @@ use native.Mathlib.Omega.{arith}
 use borrow.Author.Tests.{eqb-true}
 use lib.Dec.{eqb}
 use lib.ListN.{length, take, drop, set, getD, length-take, length-drop, take-append-drop}
-use lib.Seq.{length-take-le, take-suc, drop-cons, set-at, getD-append-add, getD-drop, append-snoc, take-at, take-append-le, drop-append-le}
+use lib.Seq.{length-take-le, take-all, take-take, take-suc, drop-cons, set-at, getD-append-add, getD-drop, append-snoc, take-at, take-append-le, drop-append-le}
 use Rattle.house.specs.declared.AtHand.{AtHand}
 use Rattle.house.specs.declared.AtHand.the-variants as A
 use Rattle.house.specs.declared.Place.the-variants as P
@@ -15,13 +15,16 @@ use Rattle.house.specs.declared.Record.{Record}
 use Rattle.house.specs.declared.Settings.{Settings}
 use Rattle.house.specs.declared.Settings.the-variants.{Within, Outside}
 use Rattle.house.specs.Records.{lengthOf}
-use Rattle.house.specs.Setups.{settingsOf, setupIn, within}
+use Rattle.house.specs.Setups.{settingsOf, setupIn}
+use Rattle.house.specs.Setups as Setups
 use Rattle.house.specs.Slices.{atHand, dataIn}
-use Rattle.house.proofs.Slicing.{whole-fits}
+use Rattle.house.proofs.Slicing.{whole-fits, start-setup, front-whole}
 use Rattle.console.specs.declared.Unread.{Unread}
 use Rattle.console.specs.declared.Start.{Start}
 use Rattle.console.specs.declared.Start.the-variants as S
-use Rattle.console.specs.Taking.{fromIn, stretch, moved, Chosen, Told}
+use Rattle.console.specs.declared.More.{More}
+use Rattle.console.specs.declared.More.the-variants as M
+use Rattle.console.specs.Taking.{tillIn, fromIn, within, stretch, moved, ReadOn, Onward, Goes, Chosen, Told}
 
 -- ---- found: t and f are where the stretch ends and begins
 
@@ -115,6 +118,56 @@ still-first d m y z u n e is h =
     ∙ ap (λ (x : List ℕ). take k x) is
     ∙ take-at (stretch d u) (drop k d) k refl
 
+module _ (d : List ℕ) (u : Unread) (start : u .from ≡ 0) (most : u .till ≤ length d) where
+  from-start : stretch d u ≡ take (u .till) d
+  from-start =
+      let whole : u .till - 0 ≡ u .till = omega arith in
+      sym (is-stretch d u (u .till) 0 (omega arith) (omega arith)) ∙ ap (λ (k : ℕ). take k d) whole
+
+  pub stretch-from-start : length (stretch d u) ≡ u .till
+  stretch-from-start = ap length from-start ∙ length-take-le (u .till) d most
+
+-- ---- gone on
+
+pub as-within : (n : ℕ) (u : Unread) (t f : ℕ) → t ≡ min (u .till) n → f ≡ min (u .from) t → record { gone = u .gone; from = f; till = t } ≡ within n u
+as-within n u t f et ef =
+    ap (λ (k : ℕ). record { gone = u .gone; from = k; till = t }) (ef ∙ ap (λ (k : ℕ). min (u .from) k) et)
+    ∙ ap (λ (k : ℕ). record { gone = u .gone; from = fromIn n u; till = k }) et
+
+module _ (d : List ℕ) (u : Unread) where
+  -- a stretch brought within its block has the same bytes
+  same-stretch : stretch d (within (length d) u) ≡ stretch d u
+  same-stretch = sym (is-stretch d (within (length d) u) (tillIn (length d) u) (fromIn (length d) u) (omega arith) (omega arith))
+
+  pub stays : (w : Unread) → w ≡ within (length d) u → Onward d u d w
+  stays w e = subst⁻¹ (Onward d u d) e
+      (record {
+        begin = refl;
+        from = omega arith;
+        end = omega arith;
+        kept = ap (λ (x : List ℕ). take (length (stretch d u)) x) same-stretch ∙ take-all (length (stretch d u)) (stretch d u) (omega arith);
+      })
+
+  read-there : (b : List ℕ) (v : Unread) → ReadOn d (within (length d) u) b (M.Read v) → Onward d u b v
+  read-there b v h =
+      let k = length (stretch d u) in
+      let long : length (stretch d (within (length d) u)) ≡ k = ap length same-stretch in
+      record {
+        begin = omega (arith, h .0, h .1 .0);
+        from = omega (arith, h .1 .0);
+        end = h .1 .1 .0;
+        kept =
+            ap (λ (x : List ℕ). take k x) (from-start b v (h .1 .0) (h .1 .1 .0))
+            ∙ take-take k (v .till) b (omega (arith, h .1 .1 .1 .0, long))
+            ∙ ap (λ (j : ℕ). take j b) (sym long)
+            ∙ h .1 .1 .1 .1
+            ∙ same-stretch;
+      }
+
+  pub reads : (w : Unread) (b : List ℕ) (m : More) → w ≡ within (length d) u → ReadOn d w b m → Goes d u b m
+  reads w b M.End e h = tt
+  reads w b (M.Read v) e h = read-there b v (subst (λ (x : Unread). ReadOn d x b (M.Read v)) e h)
+
 -- ---- the setup record
 
 abbrev OfFive : Settings → ℕ → Type 0
@@ -123,7 +176,7 @@ OfFive (Within s) n = n ≡ 5
 
 of-five : (x : List ℕ) → OfFive (settingsOf x) (length x)
 unfolding settingsOf
-of-five x = go (eqb (length x) 5) (within (setupIn x)) refl
+of-five x = go (eqb (length x) 5) (Setups.within (setupIn x)) refl
   where
     go : (t w : Bool) → eqb (length x) 5 ≡ t → OfFive (cond (t && w) (Within (setupIn x)) Outside) (length x)
     go true true e = eqb-true (length x) 5 e
@@ -139,21 +192,13 @@ front-data d t enough most =
     ∙ take-append-le 5 (drop 8 (take t d)) (drop t d) behind)
 
 module _ (d : List ℕ) (u : Unread) (start : u .from ≡ 0) (most : u .till ≤ length d) where
-  from-start : stretch d u ≡ take (u .till) d
-  from-start =
-      let whole : u .till - 0 ≡ u .till = omega arith in
-      sym (is-stretch d u (u .till) 0 (omega arith) (omega arith)) ∙ ap (λ (k : ℕ). take k d) whole
-
-  pub stretch-from-start : length (stretch d u) ≡ u .till
-  stretch-from-start = ap length from-start ∙ length-take-le (u .till) d most
-
   -- the data are five bytes, since they are settings
   pub as-told : (s x : List ℕ) (a : AtHand) (r : Record) (z : Start) → s ≡ stretch d u → a ≡ atHand P.Start s → a ≡ A.Whole r → x ≡ dataIn r s
-      → Chosen x (record { from = 13; till = u .till }) z → Told d z
+      → Chosen x (record { gone = 0; from = 13; till = u .till }) z → Told d z
   as-told s x a r S.End es ea is ex h = tt
   as-told s x a r (S.Ready c v) es ea is ex h =
-      let here : s ≡ take (u .till) d = es ∙ from-start in
-      let long : length s ≡ u .till = ap length es ∙ stretch-from-start in
+      let here : s ≡ take (u .till) d = es ∙ from-start d u start most in
+      let long : length s ≡ u .till = ap length es ∙ stretch-from-start d u start most in
       let fits : 8 + lengthOf r ≤ length s = whole-fits P.Start s r (sym ea ∙ is) in
       let said : length x ≡ lengthOf r = ap length ex ∙ length-take-le (lengthOf r) (drop 8 s) (rw length-drop (omega arith)) in
       let five : length x ≡ 5 = subst (λ (q : Settings). OfFive q (length x)) (h .0) (of-five x) in
@@ -161,4 +206,15 @@ module _ (d : List ℕ) (u : Unread) (start : u .from ≡ 0) (most : u .till ≤
       let enough : 13 ≤ u .till = omega arith in
       let same : x ≡ take 5 (drop 8 d) = ex ∙ ap (λ (k : ℕ). take k (drop 8 s)) is-five ∙ ap (λ (y : List ℕ). take 5 (drop 8 y)) here ∙ front-data d (u .till) enough most in
       let till : v .till ≡ u .till = ap (λ (w : Unread). w .till) (h .1) in
-      (subst (λ (y : List ℕ). settingsOf y ≡ Within c) same (h .0), (ap (λ (w : Unread). w .from) (h .1), (omega arith, omega arith)))
+      let whole : atHand P.Start (take 13 s) ≡ A.Whole r = front-whole P.Start s 13 r (omega arith) (sym ea ∙ is) in
+      record {
+        head =
+            ap (λ (y : List ℕ). atHand P.Start y) (sym (take-take 13 (u .till) d enough) ∙ ap (λ (y : List ℕ). take 13 y) (sym here))
+            ∙ whole
+            ∙ ap A.Whole (start-setup s r (sym ea ∙ is));
+        settings = subst (λ (y : List ℕ). settingsOf y ≡ Within c) same (h .0);
+        gone = ap (λ (w : Unread). w .gone) (h .1);
+        from = ap (λ (w : Unread). w .from) (h .1);
+        enough = omega arith;
+        end = omega arith;
+      }

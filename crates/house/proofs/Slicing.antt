@@ -1,27 +1,29 @@
 -- What each test says of a record in a slice. Assumes nothing.
-use Prim.Native.Nat.{ℕ, _+_, _-_, _≤_, _<_}
+use Prim.Native.Nat.{ℕ, _+_, _-_, _≤_, _<_, min}
 use mathlib.Core.Path.{_≡_, refl, ap, sym, subst, _∙_}
 use mathlib.Core.Bool.{Bool, true, false, cond}
 use mathlib.Core.List.{List, [], _∷_, _++_}
 use native.Mathlib.Omega.{arith}
 use borrow.Author.Tests.{le-leb, lt-leb, leb-true, eq-eqb, ne-eqb}
-use lib.Dec.{leb}
-use lib.ListN.{length, take, drop, getD, length-append, length-drop, drop-of-length-le}
-use lib.Seq.{take-all, take-nil, length-take-le}
+use lib.Dec.{eqb, leb}
+use lib.ListN.{length, take, drop, getD, length-append, length-take, length-drop, drop-of-length-le}
+use lib.Seq.{take-all, take-nil, getD-take, length-take-le}
 use Rattle.block.specs.Block.{Block, placed, put}
 use Rattle.block.proofs.Laws.{fits, then, blockOf}
 use Rattle.digits.specs.Digits.{number}
 use Rattle.house.specs.declared.Record.{Record}
+use Rattle.house.specs.declared.Record.the-variants.{Setup, Ordinary, Low, Draw, Packet, Gap}
 use Rattle.house.specs.declared.Place.{Place}
+use Rattle.house.specs.declared.Place.the-variants.{Start}
 use Rattle.house.specs.declared.Fault.{Fault}
-use Rattle.house.specs.declared.Fault.the-variants.{Mark}
+use Rattle.house.specs.declared.Fault.the-variants.{Mark, Kind, Content, Length}
 use Rattle.house.specs.declared.Judged.{Judged}
 use Rattle.house.specs.declared.Judged.the-variants.{Good, Bad}
 use Rattle.house.specs.declared.AtHand.{AtHand}
 use Rattle.house.specs.declared.AtHand.the-variants as A
 use Rattle.house.specs.declared.Written.{Written}
 use Rattle.house.specs.declared.Written.the-variants.{Till, NoRoom, OtherLength}
-use Rattle.house.specs.Records.{lengthOf, headOf, recordBytes, judgedOf}
+use Rattle.house.specs.Records.{lengthOf, headOf, recordBytes, contentFits, lengthFits, ruled, judgedOf}
 use Rattle.house.specs.Slices.{behindHead, atHand, dataIn, Left, writtenIn}
 
 abbrev leftOf : Written → List ℕ → Left
@@ -81,6 +83,89 @@ needed-fits p s = go (leb 8 (length s)) (judgedOf p s)
 
 pub whole-fits : (p : Place) (s : List ℕ) (r : Record) → atHand p s ≡ A.Whole r → 8 + lengthOf r ≤ length s
 whole-fits p s r is = subst (λ (a : AtHand). needed a ≤ length s) is (needed-fits p s)
+
+-- ---- which record it is
+
+abbrev OfSetup : Judged → Type 0
+OfSetup (Bad f) = Unit {0}
+OfSetup (Good r) = r ≡ Setup
+
+abbrev IsSetup : AtHand → Type 0
+IsSetup A.Part = Unit {0}
+IsSetup (A.Bad f) = Unit {0}
+IsSetup (A.Whole r) = r ≡ Setup
+
+of-setup : (s : List ℕ) → OfSetup (judgedOf Start s)
+unfolding judgedOf ruled
+of-setup s =
+    let k = getD s 2 0 in
+    let c = getD s 3 0 in
+    let n = number 0 (getD s 4 0 ∷ getD s 5 0 ∷ getD s 6 0 ∷ getD s 7 0 ∷ []) in
+    go (eqb (number 0 (getD s 0 0 ∷ getD s 1 0 ∷ [])) 50951) (eqb k 0) (contentFits k c) (lengthFits k n) (cond (eqb k 1) (Ordinary c n) (cond (eqb k 2) (Low c n) (cond (eqb k 3) Draw (cond (eqb k 4) (Packet n) Gap))))
+  where
+    go : (m t c l : Bool) (r : Record) → OfSetup (cond m (cond t (cond c (cond l (Good (cond t Setup r)) (Bad Length)) (Bad Content)) (Bad Kind)) (Bad Mark))
+    go false t c l r = tt
+    go true false c l r = tt
+    go true true false l r = tt
+    go true true true false r = tt
+    go true true true true r = refl
+
+is-setup : (s : List ℕ) → IsSetup (atHand Start s)
+unfolding atHand
+is-setup s = go (leb 8 (length s)) (judgedOf Start s) (of-setup s)
+  where
+    whole : (r : Record) (t : Bool) → r ≡ Setup → IsSetup (cond t (A.Whole r) A.Part)
+    whole r true e = e
+    whole r false e = tt
+
+    go : (t : Bool) (j : Judged) → OfSetup j → IsSetup (cond t (behindHead j (length s)) A.Part)
+    go false j h = tt
+    go true (Bad f) h = tt
+    go true (Good r) h = whole r (leb (8 + lengthOf r) (length s)) h
+
+-- the first record is a setup record
+pub start-setup : (s : List ℕ) (r : Record) → atHand Start s ≡ A.Whole r → r ≡ Setup
+start-setup s r is = subst IsSetup is (is-setup s)
+
+abbrev Says : Judged → AtHand → Type 0
+Says j A.Part = Unit {0}
+Says j (A.Bad f) = Unit {0}
+Says j (A.Whole r) = j ≡ Good r
+
+says : (p : Place) (s : List ℕ) → Says (judgedOf p s) (atHand p s)
+unfolding atHand
+says p s = go (leb 8 (length s)) (judgedOf p s)
+  where
+    whole : (r : Record) (t : Bool) → Says (Good r) (cond t (A.Whole r) A.Part)
+    whole r true = refl
+    whole r false = tt
+
+    go : (t : Bool) (j : Judged) → Says j (cond t (behindHead j (length s)) A.Part)
+    go false j = tt
+    go true (Bad f) = tt
+    go true (Good r) = whole r (leb (8 + lengthOf r) (length s))
+
+judged-front : (p : Place) (s : List ℕ) (n : ℕ) → 8 ≤ n → judgedOf p (take n s) ≡ judgedOf p s
+unfolding judgedOf
+judged-front p s n h =
+    rw (
+      getD-take n s 0 0 (omega arith),
+      getD-take n s 1 0 (omega arith),
+      getD-take n s 2 0 (omega arith),
+      getD-take n s 3 0 (omega arith),
+      getD-take n s 4 0 (omega arith),
+      getD-take n s 5 0 (omega arith),
+      getD-take n s 6 0 (omega arith),
+      getD-take n s 7 0 (omega arith),
+    )
+
+-- the record at the start of s is at hand in its first n bytes, if they hold it
+pub front-whole : (p : Place) (s : List ℕ) (n : ℕ) (r : Record) → 8 + lengthOf r ≤ n → atHand p s ≡ A.Whole r → atHand p (take n s) ≡ A.Whole r
+front-whole p s n r enough is =
+    let fits = whole-fits p s r is in
+    let long : length (take n s) ≡ min n (length s) = length-take n s in
+    let good : judgedOf p s ≡ Good r = subst (Says (judgedOf p s)) is (says p s) in
+    sym (is-whole p (take n s) r (omega arith) (sym good ∙ sym (judged-front p s n (omega arith))) refl refl (omega arith))
 
 -- ---- the data
 

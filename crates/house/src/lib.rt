@@ -4,7 +4,6 @@ mod setups;
 mod whole;
 
 pub use head::head_of;
-pub use head::length_of;
 pub use setups::read_setup;
 pub use whole::data_of;
 pub use whole::read_record;

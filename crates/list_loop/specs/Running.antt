@@ -1,12 +1,8 @@
 -- What holds from find to find, from record to record and from block to block: the receiver can be called again, what is taken
 -- lies within the input block, a line has room in the output block, and no count overflows. Assumes nothing.
 use Prim.Native.Nat.{ℕ, _+_, _≤_, _<_}
-use mathlib.Core.Path.{_≡_}
 use Rattle.receiver.specs.State.{Able}
 use Rattle.list_loop.specs.declared.Run.{Run}
-use Rattle.list_loop.specs.declared.Input.{Input}
-use Rattle.list_loop.specs.declared.Next.{Next}
-use Rattle.list_loop.specs.declared.Next.the-variants.{Stop, On}
 
 -- before a record with n bytes of data, with an output block of o bytes
 pub record Fit (r : Run) (n o : ℕ) : Type 0 where
@@ -40,21 +36,3 @@ pub record Ahead (first : Run) (till : ℕ) (r : Run) : Type 0 where
   pub from : first .from ≤ r .from
   pub end : r .from ≤ till
   pub count : r .done + first .from ≤ first .done + r .from
-
--- before reading on
-pub record Placed (i : Input) (b : ℕ) : Type 0 where
-  pub from : i .from ≤ i .till
-  pub end : i .till ≤ b
-  pub size : b ≤ 131072
-  pub gone : i .gone ≤ 9223372036854775808
-
--- after it: the next record begins at the same byte of the input
-pub record Moved (i : Input) (b : ℕ) (j : Input) : Type 0 where
-  pub place : j .gone + j .from ≡ i .gone + i .from
-  pub from : j .from ≤ j .till
-  pub end : j .till ≤ b
-  pub gone : j .gone ≤ i .gone + 131072
-
-abbrev pub Follows : Input → ℕ → Next → Type 0
-Follows i b Stop = Unit {0}
-Follows i b (On j) = Moved i b j

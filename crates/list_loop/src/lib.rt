@@ -3,7 +3,9 @@
 ghost use mathlib.Core.Path.{_≡_};
 ghost use Prim.Native.Nat.{_≤_};
 ghost use lib.ListN.{length};
-ghost use Rattle.list_loop.specs.Running.{Fit, Onward, Ready, Ahead, Placed, Follows};
+ghost use Rattle.list_loop.specs.Running.{Fit, Onward, Ready, Ahead};
+use console::BLOCKS;
+use console::FULL;
 use console::More;
 use console::Start;
 use console::Unread;
@@ -15,12 +17,6 @@ use house::Setup;
 use receiver::Opened;
 use receiver::Receiver;
 
-// No input has so many blocks: the loop over them ends for this.
-const LAST: u64 = 0x3FFFFFFFFFFF;
-
-// The output block is written out when so much is held; a line more always has room.
-const FULL: usize = 61440;
-
 // Between two finds: the receiver, how many TPs are done, how much of the output block is held, where in the input block the
 // record begins.
 struct Run {
@@ -28,18 +24,6 @@ struct Run {
     done: u64,
     at: usize,
     from: usize,
-}
-
-// How many bytes went before the input block, and its stretch that is not yet taken.
-struct Input {
-    gone: u64,
-    from: usize,
-    till: usize,
-}
-
-enum Next {
-    Stop,
-    On(Input),
 }
 
 // The finds of a TP, while the output block has room; then the TP is done.
@@ -107,72 +91,20 @@ fn turns(first: Run, till: usize, block: &[u8], room: &mut [u8], out: &mut [u8])
     run
 }
 
-fn stop(begin: u64, fault: Fault) {
-    console::stop(b"c7list", begin, fault);
-}
-
-fn flush(out: &[u8], at: usize) -> bool {
-    console::flush(b"c7list", out, at)
-}
-
-// Reads on behind the stretch.
-fn more(input: Input, block: &mut [u8]) -> Next
-    requires { ⌜ Placed input (length (now block)) ⌝ }
-    ensures { λ r. ⌜ Follows input (length (now (block .entry))) r ⌝ }
-{
-    let from = input.from;
-    let till = input.till;
-    let begin = input.gone + from as u64;
-    match console::read_on(b"c7list", begin, block, Unread { from, till }) {
-        More::End => Next::Stop,
-        More::Read(unread) => Next::On(Input {
-            gone: begin,
-            from: 0,
-            till: unread.till,
-        }),
-    }
-}
-
-// Writes out what is held, and reads on where no whole record is at hand.
-fn read_on(input: Input, block: &mut [u8], out: &[u8], at: usize) -> Next
-    requires { ⌜ Placed input (length (now block)) ⌝ }
-    ensures { λ r. ⌜ Follows input (length (now (block .entry))) r ⌝ }
-{
-    let from = input.from;
-    let till = input.till;
-    match house::read_record(Place::Listing, &block[from..till]) {
-        AtHand::Bad(fault) => {
-            stop(input.gone + from as u64, fault);
-            flush(out, at);
-            Next::Stop
-        }
-        AtHand::Whole(_) => {
-            if flush(out, at) {
-                return Next::On(input);
-            }
-            Next::Stop
-        }
-        AtHand::Part => {
-            if flush(out, at) {
-                return more(input, block);
-            }
-            Next::Stop
-        }
-    }
-}
-
 // Takes block after block.
-fn blocks(first: Run, end: usize, block: &mut [u8], room: &mut [u8], out: &mut [u8])
-    requires { ⌜ Ready first end (length (now block)) (length (now out)) × (first .done ≡ 0) ⌝ }
+fn blocks(first: Run, input: Unread, block: &mut [u8], room: &mut [u8], out: &mut [u8])
+    requires { ⌜ Ready first (input .till) (length (now block)) (length (now out)) × (first .done ≡ 0) ⌝ }
 {
     let mut run = first;
-    let mut till = end;
-    let mut gone: u64 = 0;
-    let mut left = LAST;
+    let mut gone = input.gone;
+    let mut till = input.till;
+    let mut left = BLOCKS;
     while 0 < left {
         run = turns(run, till, block, room, out);
         let from = run.from;
-        let Next::On(input) = read_on(Input { gone, from, till }, block, out, run.at) else {
+        let unread = Unread { gone, from, till };
+        let More::Read(next) = console::go_on(b"c7list", Place::Listing, block, unread, out, run.at)
+        else {
             return;
         };
         let receiver = run.receiver;
@@ -181,10 +113,10 @@ fn blocks(first: Run, end: usize, block: &mut [u8], room: &mut [u8], out: &mut [
             receiver,
             done,
             at: 0,
-            from: input.from,
+            from: next.from,
         };
-        gone = input.gone;
-        till = input.till;
+        gone = next.gone;
+        till = next.till;
         left -= 1;
     }
 }
@@ -194,7 +126,7 @@ fn list(setup: Setup, unread: Unread, block: &mut [u8])
 {
     let mut room = [0u8; 32768];
     let Opened::Ready(receiver) = receiver::open(setup.tp, setup.stream, &room) else {
-        stop(0, Fault::Limits);
+        console::stop(b"c7list", 0, Fault::Limits);
         return;
     };
     let mut out = [0u8; 65536];
@@ -206,7 +138,7 @@ fn list(setup: Setup, unread: Unread, block: &mut [u8])
         at,
         from,
     };
-    blocks(run, unread.till, block, &mut room, &mut out);
+    blocks(run, unread, block, &mut room, &mut out);
 }
 
 // From standard input to standard output.

@@ -12,6 +12,16 @@ pub struct Ring {
     pub len: usize,
 }
 
+// The lesser of two numbers.
+pub fn least(a: usize, b: usize) -> usize
+    ensures { λ r. ⌜ r ≡ min a b ⌝ }
+{
+    if a < b {
+        return a;
+    }
+    b
+}
+
 // How many of n bytes there is place for behind index at.
 fn clamped(size: usize, at: usize, n: usize) -> usize
     ensures { λ r. ⌜ r ≡ min n (size - at) ⌝ }

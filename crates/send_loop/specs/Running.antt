@@ -1,10 +1,17 @@
--- What holds from block to block. Assumes nothing.
+-- What holds from record to record and from block to block: the sender can be called again, and what is taken lies within the
+-- input block. Assumes nothing.
 use Prim.Native.Nat.{ℕ, _≤_}
 use Rattle.sender.specs.Opening.{Sound}
-use Rattle.send_loop.specs.declared.Next.{Next}
-use Rattle.send_loop.specs.declared.Next.the-variants.{Stop, Go}
+use Rattle.send_loop.specs.declared.Run.{Run}
 
--- the sender can be called again; at most `gone` bytes came before the block, and the next record begins within its first n
-abbrev pub Goes : ℕ → ℕ → Next → Type 0
-Goes gone n Stop = Unit {0}
-Goes gone n (Go r) = Sound (r .sender) × ((r .gone ≤ gone) × (r .from ≤ n))
+-- before the records of an input block of b bytes
+pub record Ready (r : Run) (till b : ℕ) : Type 0 where
+  pub sound : Sound (r .sender)
+  pub from : r .from ≤ till
+  pub end : till ≤ b
+
+-- behind them
+pub record Ahead (first : Run) (till : ℕ) (r : Run) : Type 0 where
+  pub sound : Sound (r .sender)
+  pub from : first .from ≤ r .from
+  pub end : r .from ≤ till

@@ -20,7 +20,7 @@ use Rattle.sender.specs.declared.Refusal.{Refusal}
 use Rattle.sending.specs.Turn.{Drawn, drawnBy, drawnOf}
 
 abbrev drawnWith : Sender → Block → Drawn
-drawnWith s k = record { sender = s; block = k }
+drawnWith s k = record { sender = s; block = k; refused = 0 }
 
 module _ (d : List ℕ) (at tp : ℕ) (h : at + 8 + tp ≤ length d) where
   size : at + 8 + tp - (at + 8) ≡ tp
@@ -91,17 +91,17 @@ module _ (d : List ℕ) (at tp : ℕ) (h : at + 8 + tp ≤ length d) where
 
     pub drew-one : (t : Sender) (a : Answer) (y : List ℕ) (r : ℕ) → drewAs a → a ≡ Done t
         → blockOf y r ≡ put (putMid (at + 8) (at + 8 + tp - (at + 8)) d b) at (headOf (Packet tp))
-        → _≡_ {A = Drawn} (record { sender = t; block = blockOf y (at + 8 + tp) }) (drawnOf s low ordinary tp d at)
+        → _≡_ {A = Drawn} (record { sender = t; block = blockOf y (at + 8 + tp); refused = 0 }) (drawnOf s low ordinary tp d at)
     drew-one t a y r g is w =
         ap (λ (k : Block). drawnWith t k) (wrote-both b (headOf (Packet tp)) sized refl y r (w ∙ ap (λ (x : List ℕ). put x at (headOf (Packet tp))) (middle b sized)))
         ∙ by-draw (Done t) (subst drewAs is g)
 
     pub drew-none : (k : Refusal) (a : Answer) → drewAs a → a ≡ Refused k
-        → _≡_ {A = Drawn} (record { sender = s; block = blockOf (putMid (at + 8) (at + 8 + tp - (at + 8)) d b) at }) (drawnOf s low ordinary tp d at)
+        → _≡_ {A = Drawn} (record { sender = s; block = blockOf (putMid (at + 8) (at + 8 + tp - (at + 8)) d b) at; refused = 0 }) (drawnOf s low ordinary tp d at)
     drew-none k a g is =
         ap (λ (x : List ℕ). drawnWith s (blockOf x at)) (middle b sized) ∙ by-draw (Refused k) (subst drewAs is g)
 
 pub drew-nothing : (s : Sender) (low ordinary d : List ℕ) (at tp : ℕ) → length d < at + 8 + tp
-    → _≡_ {A = Drawn} (record { sender = s; block = blockOf d at }) (drawnOf s low ordinary tp d at)
+    → _≡_ {A = Drawn} (record { sender = s; block = blockOf d at; refused = 0 }) (drawnOf s low ordinary tp d at)
 unfolding drawnOf
 drew-nothing s low ordinary d at tp h = rw (lt-leb (at + 8 + tp) (length d) h)

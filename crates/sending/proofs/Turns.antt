@@ -12,10 +12,10 @@ use Rattle.sender.specs.Answers.{Left}
 use Rattle.sender.specs.Offering.{ordinaryOffered, lowOffered}
 use Rattle.sender.specs.declared.Sender.{Sender}
 use Rattle.sender.specs.declared.Answer.{Answer}
-use Rattle.sending.specs.Turn.{kept, Drawn, drawnOf, After, turnOf, till, begun}
+use Rattle.sending.specs.Turn.{kept, refusedBy, Drawn, drawnOf, After, turnOf, till, begun}
 
-abbrev after : Sender → List ℕ → List ℕ → Block → After
-after s low ordinary o = record { sender = s; low = low; ordinary = ordinary; block = o }
+abbrev after : Sender → List ℕ → List ℕ → Block → ℕ → After
+after s low ordinary o n = record { sender = s; low = low; ordinary = ordinary; block = o; refused = n }
 
 abbrev left : Answer → List ℕ → Left
 left a b = record { answer = a; buffer = b }
@@ -24,23 +24,25 @@ module _ (said : Record) (s : Sender) (d low ordinary : List ℕ) (tp : ℕ) (o 
   abbrev Turns : After → Type 0
   Turns x = x ≡ turnOf said s d low ordinary tp o
 
-  pub to-ordinary : (c n : ℕ) (b : List ℕ) {a w : Answer}
-      → said ≡ Ordinary c n → left a b ≡ ordinaryOffered s low ordinary c d → a ≡ w → Turns (after (kept w s) low b o)
-  to-ordinary c n b is g k =
-      ap (λ (x : Answer). after (kept x s) low b o) (sym k)
-      ∙ ap (λ (l : Left). after (kept (l .answer) s) low (l .buffer) o) g
+  pub to-ordinary : (c n : ℕ) (b : List ℕ) {a : Answer} (w : Answer) (k : ℕ)
+      → said ≡ Ordinary c n → left a b ≡ ordinaryOffered s low ordinary c d → a ≡ w → k ≡ refusedBy w → Turns (after (kept w s) low b o k)
+  to-ordinary c n b w k is g e told =
+      ap (λ (m : ℕ). after (kept w s) low b o m) told
+      ∙ ap (λ (x : Answer). after (kept x s) low b o (refusedBy x)) (sym e)
+      ∙ ap (λ (l : Left). after (kept (l .answer) s) low (l .buffer) o (refusedBy (l .answer))) g
       ∙ ap (λ (x : Record). turnOf x s d low ordinary tp o) (sym is)
 
-  pub to-low : (c n : ℕ) (b : List ℕ) {a w : Answer}
-      → said ≡ Low c n → left a b ≡ lowOffered s low ordinary c d → a ≡ w → Turns (after (kept w s) b ordinary o)
-  to-low c n b is g k =
-      ap (λ (x : Answer). after (kept x s) b ordinary o) (sym k)
-      ∙ ap (λ (l : Left). after (kept (l .answer) s) (l .buffer) ordinary o) g
+  pub to-low : (c n : ℕ) (b : List ℕ) {a : Answer} (w : Answer) (k : ℕ)
+      → said ≡ Low c n → left a b ≡ lowOffered s low ordinary c d → a ≡ w → k ≡ refusedBy w → Turns (after (kept w s) b ordinary o k)
+  to-low c n b w k is g e told =
+      ap (λ (m : ℕ). after (kept w s) b ordinary o m) told
+      ∙ ap (λ (x : Answer). after (kept x s) b ordinary o (refusedBy x)) (sym e)
+      ∙ ap (λ (l : Left). after (kept (l .answer) s) (l .buffer) ordinary o (refusedBy (l .answer))) g
       ∙ ap (λ (x : Record). turnOf x s d low ordinary tp o) (sym is)
 
-  pub to-draw : (x : Drawn) → said ≡ Draw → x ≡ drawnOf s low ordinary tp (o .bytes) (o .at) → Turns (after (x .sender) low ordinary (x .block))
+  pub to-draw : (x : Drawn) → said ≡ Draw → x ≡ drawnOf s low ordinary tp (o .bytes) (o .at) → Turns (after (x .sender) low ordinary (x .block) (x .refused))
   to-draw x is g =
-      ap (λ (y : Drawn). after (y .sender) low ordinary (y .block)) g
+      ap (λ (y : Drawn). after (y .sender) low ordinary (y .block) (y .refused)) g
       ∙ ap (λ (y : Record). turnOf y s d low ordinary tp o) (sym is)
 
 -- what the writing of the setup record answers

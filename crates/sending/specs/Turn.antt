@@ -12,7 +12,7 @@ use Rattle.house.specs.declared.Record.the-variants.{Setup, Ordinary, Low, Draw
 use Rattle.house.specs.declared.Written.{Written}
 use Rattle.house.specs.declared.Written.the-variants.{Till, NoRoom, OtherLength}
 use Rattle.house.specs.Slices.{writtenIn}
-use Rattle.sender.specs.Answers.{Left}
+use Rattle.sender.specs.Answers.{Left, number}
 use Rattle.sender.specs.Offering.{ordinaryOffered, lowOffered}
 use Rattle.sender.specs.Drawing.{drew}
 use Rattle.sender.specs.declared.Sender.{Sender}
@@ -24,45 +24,53 @@ abbrev pub kept : Answer → Sender → Sender
 kept (Done t) s = t
 kept (Refused k) s = s
 
+-- document 01's number where it is refused, else 0
+abbrev pub refusedBy : Answer → ℕ
+refusedBy (Done t) = 0
+refusedBy (Refused k) = number k
+
 -- the draw is lent the block's bytes behind its record's head, and leaves b there; a drawn TP goes out as a record of kind 4
 abbrev pub wrote : Answer → List ℕ → ℕ → List ℕ → ℕ → Block
 wrote (Done t) b tp out at = put out at (recordBytes (Packet tp) b)
 wrote (Refused k) b tp out at = record { bytes = placed out (at + 8) b; at = at }
 
+-- (no draw is refused here, so none is told)
 pub record Drawn : Type 0 where
   pub sender : Sender
   pub block : Block
+  pub refused : ℕ
 
 abbrev pub drawnBy : Left → Sender → ℕ → List ℕ → ℕ → Drawn
-drawnBy l s tp out at = record { sender = kept (l .answer) s; block = wrote (l .answer) (l .buffer) tp out at }
+drawnBy l s tp out at = record { sender = kept (l .answer) s; block = wrote (l .answer) (l .buffer) tp out at; refused = 0 }
 
 unfoldable pub drawnOf : Sender → List ℕ → List ℕ → ℕ → List ℕ → ℕ → Drawn
 drawnOf s low ordinary tp out at =
     cond (leb (at + 8 + tp) (length out))
     (drawnBy (drew s low ordinary (take tp (drop (at + 8) out))) s tp out at)
-    (record { sender = s; block = record { bytes = out; at = at } })
+    (record { sender = s; block = record { bytes = out; at = at }; refused = 0 })
 
--- what a turn leaves: the sender, both queues, the output block
+-- what a turn leaves: the sender, both queues, the output block, and whether an offer was refused
 pub record After : Type 0 where
   pub sender : Sender
   pub low : List ℕ
   pub ordinary : List ℕ
   pub block : Block
+  pub refused : ℕ
 
 -- an SP is offered; a draw draws one TP; the other kinds do nothing, and are not read here
 abbrev pub turnOf : Record → Sender → List ℕ → List ℕ → List ℕ → ℕ → Block → After
-turnOf Setup s d low ordinary tp o = record { sender = s; low = low; ordinary = ordinary; block = o }
+turnOf Setup s d low ordinary tp o = record { sender = s; low = low; ordinary = ordinary; block = o; refused = 0 }
 turnOf (Ordinary c n) s d low ordinary tp o =
     let l = ordinaryOffered s low ordinary c d in
-    record { sender = kept (l .answer) s; low = low; ordinary = l .buffer; block = o }
+    record { sender = kept (l .answer) s; low = low; ordinary = l .buffer; block = o; refused = refusedBy (l .answer) }
 turnOf (Low c n) s d low ordinary tp o =
     let l = lowOffered s low ordinary c d in
-    record { sender = kept (l .answer) s; low = l .buffer; ordinary = ordinary; block = o }
+    record { sender = kept (l .answer) s; low = l .buffer; ordinary = ordinary; block = o; refused = refusedBy (l .answer) }
 turnOf Draw s d low ordinary tp o =
     let l = drawnOf s low ordinary tp (o .bytes) (o .at) in
-    record { sender = l .sender; low = low; ordinary = ordinary; block = l .block }
-turnOf (Packet n) s d low ordinary tp o = record { sender = s; low = low; ordinary = ordinary; block = o }
-turnOf Gap s d low ordinary tp o = record { sender = s; low = low; ordinary = ordinary; block = o }
+    record { sender = l .sender; low = low; ordinary = ordinary; block = l .block; refused = l .refused }
+turnOf (Packet n) s d low ordinary tp o = record { sender = s; low = low; ordinary = ordinary; block = o; refused = 0 }
+turnOf Gap s d low ordinary tp o = record { sender = s; low = low; ordinary = ordinary; block = o; refused = 0 }
 
 -- how many bytes the block holds then
 abbrev pub till : Written → ℕ

@@ -1,7 +1,7 @@
 -- `list_loop::from_input` is safe: what follows the setup lies within the block.
 -- Assumes nothing.
 use native.Mathlib.Omega.{arith}
-use Rattle.list_loop.proofs.Laws.{first-within}
+use Rattle.console.proofs.Onward.{begins}
 use borrow.Author.Needs.{needs}
 use Rattle.list_loop.proofs.from_input.Statement.{statement}
 use Rattle.list_loop.proofs.from_input.Tie as tie
@@ -28,7 +28,9 @@ slice-aggregate-list : tie.Need-slice-aggregate-list
 slice-aggregate-list c = search needs
 
 list-requires : tie.Need-list-requires
-list-requires c κs = (omega arith, first-within _ _ _ _ (c .before .before .before .before .before .first .ensures) (c .before .before .setup .given .1))
+list-requires c κs =
+    let b = begins _ _ _ _ (c .before .before .before .before .before .first .ensures) (c .before .before .setup .given .1) in
+    (omega arith, (omega (arith, b .from, b .enough), b .end))
 
 returns-2 : tie.Need-returns-2
 returns-2 c = search needs

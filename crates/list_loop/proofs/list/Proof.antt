@@ -19,6 +19,9 @@ enum-known-receiver c = search needs
 enum-told : tie.Need-enum-told
 enum-told c = search needs
 
+slice-aggregate-stop : tie.Need-slice-aggregate-stop
+slice-aggregate-stop c = search needs
+
 stop-requires : tie.Need-stop-requires
 stop-requires c κs = search needs
 
@@ -65,6 +68,7 @@ list-spec =
     open-requires
     enum-known-receiver
     enum-told
+    slice-aggregate-stop
     stop-requires
     returns
     slice-aggregate-header

@@ -6,7 +6,7 @@ use native.Mathlib.Omega.{arith}
 use borrow.Author.Needs.{needs}
 use lib.ListN.{length}
 use Rattle.list_loop.specs.Running.{Ahead}
-use Rattle.list_loop.proofs.Laws.{data-within}
+use Rattle.console.proofs.Onward.{data-within}
 use Rattle.list_loop.proofs.turns.Statement.{statement}
 use Rattle.list_loop.proofs.turns.Tie as tie
 

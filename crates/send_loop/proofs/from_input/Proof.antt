@@ -1,8 +1,7 @@
 -- `send_loop::from_input` is safe: behind the setup record the block goes on at byte 13.
 -- Assumes nothing.
-use mathlib.Core.Path.{subst}
 use native.Mathlib.Omega.{arith}
-use Rattle.console.specs.Taking.{Told}
+use Rattle.console.proofs.Onward.{begins}
 use borrow.Author.Needs.{needs}
 use Rattle.send_loop.proofs.from_input.Statement.{statement}
 use Rattle.send_loop.proofs.from_input.Tie as tie
@@ -30,8 +29,8 @@ slice-aggregate-send c = search needs
 
 send-requires : tie.Need-send-requires
 send-requires c κs =
-    let told = subst (Told (c .before .before .before .before .before .first .last .1 .0)) (c .before .before .setup .given .1) (c .before .before .before .before .before .first .ensures) in
-    (omega arith, told .1 .0)
+    let b = begins _ _ _ _ (c .before .before .before .before .before .first .ensures) (c .before .before .setup .given .1) in
+    (omega arith, (omega (arith, b .from, b .enough), b .end))
 
 returns-2 : tie.Need-returns-2
 returns-2 c = search needs

@@ -1,7 +1,6 @@
 -- `send_loop::send` is safe: what `open` gives is sound, and the block has its length.
 -- Assumes nothing.
-use mathlib.Core.Path.{refl, subst}
-use native.Mathlib.Omega.{arith}
+use mathlib.Core.Path.{subst}
 use Rattle.sender.specs.Opening.{SoundAnswer}
 use borrow.Author.Needs.{needs}
 use Rattle.send_loop.proofs.send.Statement.{statement}
@@ -56,7 +55,9 @@ slice-aggregate-blocks-3 : tie.Need-slice-aggregate-blocks-3
 slice-aggregate-blocks-3 c = search needs
 
 blocks-requires : tie.Need-blocks-requires
-blocks-requires c κs = (subst SoundAnswer (c .before .before .before .before .before .before .before .before .before .before .sender .given .1) (c .before .before .before .before .before .before .before .before .before .before .before .before .«open» .ensures .1), (omega (arith, c .before .before .before .before .before .before .before .before .before .before .before .before .before .before .before .before .pre .0, c .before .before .before .before .before .before .before .before .before .before .before .before .before .before .before .before .pre .1), (omega (arith, c .before .before .before .before .before .before .before .before .before .before .before .before .before .before .before .before .pre .0), refl)))
+blocks-requires c κs =
+    let p = c .before .before .before .before .before .before .before .before .before .before .before .before .before .before .before .before .pre in
+    record { sound = subst SoundAnswer (c .before .before .before .before .before .before .before .before .before .before .sender .given .1) (c .before .before .before .before .before .before .before .before .before .before .before .before .«open» .ensures .1); from = p .1 .0; end = p .1 .1 }
 
 same-length : tie.Need-same-length
 same-length c = search needs

@@ -2,8 +2,8 @@
 -- Assumes nothing.
 use mathlib.Core.Path.{refl, sym, _∙_}
 use borrow.Author.Needs.{needs}
-use Rattle.console.proofs.setup_in.Statement.{statement}
-use Rattle.console.proofs.setup_in.Tie as tie
+use Rattle.console.proofs.input.setup_in.Statement.{statement}
+use Rattle.console.proofs.input.setup_in.Tie as tie
 
 read-setup-requires : tie.Need-read-setup-requires
 read-setup-requires c κs = search needs

@@ -2,8 +2,8 @@
 -- Assumes nothing.
 use Rattle.console.proofs.Laws.{is-stretch}
 use borrow.Author.Needs.{needs}
-use Rattle.console.proofs.bytes_of.Statement.{statement}
-use Rattle.console.proofs.bytes_of.Tie as tie
+use Rattle.console.proofs.stretch.bytes_of.Statement.{statement}
+use Rattle.console.proofs.stretch.bytes_of.Tie as tie
 
 least-requires : tie.Need-least-requires
 least-requires c κs = search needs

@@ -7,8 +7,8 @@ use borrow.Author.Needs.{needs}
 use lib.ListN.{length}
 use Rattle.console.specs.Taking.{ReadOn}
 use Rattle.console.proofs.Laws.{stretch-from-start, as-told}
-use Rattle.console.proofs.first.Statement.{statement}
-use Rattle.console.proofs.first.Tie as tie
+use Rattle.console.proofs.input.first.Statement.{statement}
+use Rattle.console.proofs.input.first.Tie as tie
 
 abbrev Inv-loop : tie.InvT-loop
 Inv-loop program block₀ unread₀ block unread = (unread .from ≡ 0) × ((unread .till ≤ length block) × (length block ≡ length block₀))
@@ -48,13 +48,13 @@ loop-less c =
     let l = c .before .before .before .before .before .before .before .before .before .before .before .before .before .before .loop in
     let on = subst (ReadOn (l .block) (l .unread) _) (c .before .before .before .before .before .before .longer .given .1) (c .before .before .before .before .before .before .before .before .before .before .read-on .ensures) in
     let old = stretch-from-start (l .block) (l .unread) (l .inv .0) (l .inv .1 .0) in
-    omega (arith, on .1 .0, on .1 .1 .0, old, c .before .before .before .before .before .before .before .before .before .block .given, l .inv .1 .1, c .before .before .before .before .before .before .before .before .before .before .before .before .if1 .taken)
+    omega (arith, on .1 .1 .0, on .1 .1 .1 .0, old, c .before .before .before .before .before .before .before .before .before .block .given, l .inv .1 .1, c .before .before .before .before .before .before .before .before .before .before .before .before .if1 .taken)
 
 loop-again : tie.Need-loop-again Inv-loop μ-loop
 loop-again c =
     let l = c .before .before .before .before .before .before .before .before .before .before .before .before .before .before .loop in
     let on = subst (ReadOn (l .block) (l .unread) _) (c .before .before .before .before .before .before .longer .given .1) (c .before .before .before .before .before .before .before .before .before .before .read-on .ensures) in
-    (on .0, (on .1 .0, c .before .before .before .before .before .before .before .before .before .block .given ∙ l .inv .1 .1))
+    (on .1 .0, (on .1 .1 .0, c .before .before .before .before .before .before .before .before .before .block .given ∙ l .inv .1 .1))
 
 enum-known-fault : tie.Need-enum-known-fault Inv-loop μ-loop
 enum-known-fault c = search needs
@@ -84,7 +84,7 @@ returns-3 : tie.Need-returns-3 Inv-loop μ-loop
 returns-3 c =
     let l = c .before .before .before .before .before .before .before .before .before .before .before .before .before .before .before .before .before .loop in
     let on = subst (ReadOn (l .block) (l .unread) _) (c .before .before .before .before .before .before .before .before .before .longer .given .1) (c .before .before .before .before .before .before .before .before .before .before .before .before .before .read-on .ensures) in
-    as-told (c .before .before .before .before .before .before .before .before .before .before .before .before .before .read-on .last .1 .1 .0) _ (on .0) (on .1 .0) _ _ _ _ (c .setup-in .result) (c .before .before .before .before .before .before .bytes-of .ensures) (c .before .before .before .before .before .read-record .ensures) (c .before .before .before .said .given .1) (c .before .data-of .ensures) (c .setup-in .ensures)
+    as-told (c .before .before .before .before .before .before .before .before .before .before .before .before .before .read-on .last .1 .0) (c .before .before .before .before .before .before .before .before .before .longer .given .0 .0) (on .1 .0) (on .1 .1 .0) _ _ _ _ (c .setup-in .result) (c .before .before .before .before .before .before .bytes-of .ensures) (c .before .before .before .before .before .read-record .ensures) (c .before .before .before .said .given .1) (c .before .data-of .ensures) (c .setup-in .ensures)
 
 same-length-4 : tie.Need-same-length-4 Inv-loop μ-loop
 same-length-4 c = search needs

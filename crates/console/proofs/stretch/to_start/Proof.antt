@@ -6,8 +6,8 @@ use native.Mathlib.Omega.{arith}
 use borrow.Author.Needs.{needs}
 use lib.ListN.{length, length-set}
 use Rattle.console.proofs.Laws.{is-there, stretch-long, shifted, shifted-none, shift-on, all-moved}
-use Rattle.console.proofs.to_start.Statement.{statement}
-use Rattle.console.proofs.to_start.Tie as tie
+use Rattle.console.proofs.stretch.to_start.Statement.{statement}
+use Rattle.console.proofs.stretch.to_start.Tie as tie
 
 abbrev Inv-loop : tie.InvT-loop
 Inv-loop block₀ till from n i₀ block i = (from + n ≤ length block₀) × ((i ≤ n) × ((block ≡ shifted block₀ from i) × (length block ≡ length block₀)))
