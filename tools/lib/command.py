@@ -18,9 +18,7 @@ class Arguments(argparse.ArgumentParser):
 
     def __init__(self, name, text, output):
         self.output = output
-        super().__init__(prog="tools/" + name, usage=argparse.SUPPRESS, description=text, allow_abbrev=False, add_help=False,
-                         formatter_class=argparse.RawDescriptionHelpFormatter)
-        self.add_argument("--help", action="help", help=argparse.SUPPRESS)
+        super().__init__(prog="tools/" + name, description=text, allow_abbrev=False)
 
     def print_help(self, file=None):
         self.output.write(self.description.lstrip().encode())
@@ -74,6 +72,7 @@ class Input:
     """A file, or standard input, as its bytes come: what was written goes out before each wait for more."""
 
     def __init__(self, path, output):
+        path = None if path == "-" else path
         self.name, self.output = path or "standard input", output
         self.held, self.place = b"", 0  # a block, and how much of it is taken
         self.at = 0                     # bytes taken in all

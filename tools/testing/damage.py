@@ -51,7 +51,7 @@ class Damage(trial.Case):
     def test_short_transport_packets_count(self):
         """As in the listing; they have no word in which to flip a bit."""
         recording = trial.records(SETUP + "tp 001122\n" + TPS[0])
-        out = self.works(trial.tool("damage", "--garble", "2", data=recording))
+        out = self.works(trial.tool("damage", "--flips", "3", "--garble", "2", data=recording))
         self.assertEqual(parts(out)[0][0], "tp 001122")
         self.assertEqual(parts(out)[1][1], 4)
 

@@ -67,6 +67,17 @@ class Programs(trial.Case):
         self.assertEqual(done.said, "c7send: record at byte 13: refused 2\nc7send: record at byte 22: refused 3\n"
                                     "c7send: record at byte 36: refused 4\n")
 
+    def test_raw_bytes_to_packets(self):
+        """The way of README's example: frames behind a sync word come to the same packets as the recording itself."""
+        with open(os.path.join(trial.ROOT, "demo", "flight.txt"), "rb") as file:
+            sent = self.works(trial.tool("run", "c7send", data=self.works(trial.tool("records", data=file.read()))))
+        frames = self.works(trial.tool("wrap", "--off", "--sync", "FE6B2840", data=sent))
+        recording = self.works(trial.tool("wrap", "--tp", "64", "--stream", "3", "--sync", "FE6B2840", data=frames))
+        self.assertEqual(recording[13:], sent[13:])
+        packets = self.works(trial.tool("run", "c7read", data=recording))
+        self.assertEqual(packets[13:], self.works(trial.tool("run", "c7read", data=sent))[13:])
+        self.assertEqual(trial.tool("pcap", data=packets).said.split(".")[0], "tools/pcap: 8 packets")
+
     def test_live(self):
         """Each record's answer comes before the next record is given."""
         tp = len(RECORDING) - 24

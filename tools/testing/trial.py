@@ -1,12 +1,15 @@
 """What the tests share: a tool run on bytes, and the three things that it leaves: status, output, what it said."""
 import collections
+import contextlib
 import os
 import subprocess
 import sys
+import threading
 import unittest
 
 ROOT = os.path.realpath(os.path.join(os.path.dirname(__file__), "..", ".."))
 LIMIT = 120  # seconds for one run
+LIVE_LIMIT = 30  # and for one between two pipes
 
 Run = collections.namedtuple("Run", "status out said")
 TOOLS = os.path.join(ROOT, "tools")
@@ -45,6 +48,17 @@ def live(words):
     return subprocess.Popen(words, stdin=subprocess.PIPE, stdout=subprocess.PIPE, stderr=subprocess.DEVNULL, bufsize=0)
 
 
+@contextlib.contextmanager
+def ends_in(seconds, running):
+    """A process that would wait for ever is ended, so that its reader sees the end."""
+    clock = threading.Timer(seconds, running.kill)
+    clock.start()
+    try:
+        yield
+    finally:
+        clock.cancel()
+
+
 class Case(unittest.TestCase):
     def fails(self, done, status, words):
         """The tool ended so, with one line that has these words."""
@@ -58,7 +72,7 @@ class Case(unittest.TestCase):
 
     def passes_on(self, words, pieces):
         """Each piece of input leads to its piece of output before the next one is given."""
-        with live(words) as running:
+        with live(words) as running, ends_in(LIVE_LIMIT, running):
             for given, wanted in pieces:
                 running.stdin.write(given)
                 got = b""

@@ -1,4 +1,6 @@
 """tools/wrap: plain bytes into records and back, with and without a sync word, as they come."""
+import tempfile
+
 import trial
 
 SYNC = bytes.fromhex("fe6b2840")
@@ -32,6 +34,16 @@ class Wrap(trial.Case):
         self.assertEqual(lines_of(self.works(done)), ["setup 16 5 65535", "gap", "tp 01*16", "gap", "tp 02*16", "gap"])
         self.assertEqual(done.said, "".join("tools/wrap: byte %d: no sync word, %d bytes passed over\n" % pair
                                             for pair in ((0, 2), (22, 3), (45, 21))))
+
+    def test_sync_across_blocks(self):
+        """A file is read in blocks of 65,536 bytes; the sync word is found wherever their edge cuts it."""
+        for before in range(65536 - len(SYNC), 65537):
+            with self.subTest(before), tempfile.NamedTemporaryFile() as file:
+                file.write(bytes(before) + SYNC + TPS[0])
+                file.flush()
+                done = trial.tool("wrap", *ON, "--sync", "FE6B2840", file.name)
+                self.assertEqual(lines_of(self.works(done)), ["setup 16 5 65535", "gap", "tp 01*16"])
+                self.assertEqual(done.said, "tools/wrap: byte 0: no sync word, %d bytes passed over\n" % before)
 
     def test_sync_never(self):
         for data in (b"", b"\xfe", bytes(200000)):
