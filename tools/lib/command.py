@@ -4,6 +4,7 @@ Status 0: all was done. 1: the input was bad, or could not be read, or the outpu
 import argparse
 import io
 import os
+import sys
 
 BLOCK = 1 << 16
 LONGEST_LINE = 1 << 20
@@ -169,7 +170,7 @@ def run(name, main):
         output.flush()
     except Stop as stop:
         status = status or failed(name, stop)
-    os._exit(status)  # without the interpreter's own last flush, which would tell the same failure again
+    sys.exit(status)
 
 
 def failed(name, line):

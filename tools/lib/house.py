@@ -41,9 +41,14 @@ def split(stream):
     return parts, stream[at:]
 
 
+def length_fits(kind, length):
+    if kind == SETUP:
+        return length == 5
+    return length == 0 if kind in (DRAW, GAP) else length <= LONGEST
+
+
 def fault_of(head, kinds):
     """What is wrong with a record's head where these kinds may stand, in the programs' words; None if nothing is."""
-    length = length_of(head)
     if len(head) < HEAD:
         return "cut short"
     if head[:2] != MARK:
@@ -52,7 +57,7 @@ def fault_of(head, kinds):
         return "a kind that has no place here"
     if head[3] != 0 and head[2] not in (ORDINARY, LOW):
         return "content not 0"
-    if length != 5 if head[2] == SETUP else length != 0 if head[2] in (DRAW, GAP) else length > LONGEST:
+    if not length_fits(head[2], length_of(head)):
         return "wrong length"
     return None
 

@@ -1,4 +1,5 @@
 """House records as readable lines, and back: tools/records --help has the words."""
+import itertools
 import re
 
 from lib import house
@@ -111,18 +112,14 @@ def decode_record(part):
 
 def draws_together(lines):
     """The lines, with draws that follow each other told as one."""
-    draws = 0
-    for line in lines:
-        if line == "draw" and draws < MOST_DRAWS:
-            draws += 1
+    for is_draw, run in itertools.groupby(lines, lambda line: line == "draw"):
+        if not is_draw:
+            yield from run
             continue
-        if draws:
-            yield "draw %d" % draws
-        draws = 1 if line == "draw" else 0
-        if not draws:
-            yield line
-    if draws:
-        yield "draw %d" % draws
+        many, count = divmod(sum(1 for _ in run), MOST_DRAWS)
+        yield from ["draw %d" % MOST_DRAWS] * many
+        if count:
+            yield "draw %d" % count
 
 
 def raw_lines(source, count):

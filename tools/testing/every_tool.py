@@ -10,6 +10,7 @@ SETUP = "setup 2051 0 65535\n"
 STREAMS = {
     "records": (["records"], b"", b"tp 00*2051\n"),
     "records -d": (["records", "-d"], trial.records(SETUP), trial.records("tp 0011*1000\ngap\n")),
+    "records -d, one long record": (["records", "-d"], trial.records(SETUP + "raw c7070400ffffffff"), bytes(2051)),
     "damage": (["damage", "--flips", "1"], trial.records(SETUP), trial.records("tp 00*2051\n")),
     "wrap": (["wrap", "--tp", "2051", "--stream", "0"], b"", bytes(2051)),
     "wrap --sync": (["wrap", "--tp", "2051", "--stream", "0", "--sync", "C7"], b"", b"\xc7" + bytes(2051)),
