@@ -1,32 +1,22 @@
 """tools/picture: the picture follows crates.txt, and a bad crates.txt is told."""
 import os
 import re
-import shutil
-import tempfile
 
 import trial
 
 
 class Picture(trial.Case):
     def setUp(self):
-        """A repository of its own with our crates.txt."""
-        self.room = tempfile.mkdtemp()
-        self.addCleanup(shutil.rmtree, self.room)
-        for folder in ("tools", "docs"):
-            os.mkdir(os.path.join(self.room, folder))
-        shutil.copy(os.path.join(trial.TOOLS, "picture"), os.path.join(self.room, "tools"))
-        shutil.copytree(os.path.join(trial.TOOLS, "lib"), os.path.join(self.room, "tools", "lib"))
-        with open(os.path.join(trial.ROOT, "crates.txt"), encoding="utf-8") as file:
-            self.crates = file.read()
+        self.room = self.repository("picture")
+        os.mkdir(os.path.join(self.room, "docs"))
+        self.crates = trial.text_of(trial.ROOT, "crates.txt")
 
     def draw(self, crates, *words):
-        with open(os.path.join(self.room, "crates.txt"), "w", encoding="utf-8") as file:
-            file.write(crates)
+        trial.write(crates, self.room, "crates.txt")
         return trial.tool(os.path.join(self.room, "tools", "picture"), *words)
 
     def drawn(self):
-        with open(os.path.join(self.room, "docs", "house.svg"), encoding="utf-8") as file:
-            return file.read()
+        return trial.text_of(self.room, "docs", "house.svg")
 
     def test_every_crate_is_drawn_once(self):
         self.works(self.draw(self.crates))

@@ -2,8 +2,10 @@
 import collections
 import contextlib
 import os
+import shutil
 import subprocess
 import sys
+import tempfile
 import threading
 import unittest
 
@@ -43,6 +45,18 @@ def records(text):
     return done.out
 
 
+def write(text, *path):
+    """A text file, with the folders that it stands in."""
+    os.makedirs(os.path.join(*path[:-1]), exist_ok=True)
+    with open(os.path.join(*path), "w", encoding="utf-8") as file:
+        file.write(text)
+
+
+def text_of(*path):
+    with open(os.path.join(*path), encoding="utf-8") as file:
+        return file.read()
+
+
 def live(words):
     """A tool between two pipes."""
     return subprocess.Popen(words, stdin=subprocess.PIPE, stdout=subprocess.PIPE, stderr=subprocess.DEVNULL, bufsize=0)
@@ -69,6 +83,15 @@ class Case(unittest.TestCase):
     def works(self, done):
         self.assertEqual(done.status, 0, done)
         return done.out
+
+    def repository(self, *names):
+        """A folder with these tools and no more, which goes with the test."""
+        room = tempfile.mkdtemp()
+        self.addCleanup(shutil.rmtree, room)
+        shutil.copytree(os.path.join(TOOLS, "lib"), os.path.join(room, "tools", "lib"))
+        for name in names:
+            shutil.copy(os.path.join(TOOLS, name), os.path.join(room, "tools"))
+        return room
 
     def passes_on(self, words, pieces):
         """Each piece of input leads to its piece of output before the next one is given."""

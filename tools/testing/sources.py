@@ -1,0 +1,38 @@
+"""tools/cited and tools/corrections, each in a repository of its own."""
+import os
+
+import trial
+
+CORRECTIONS = ("crates", "golay", "src", "corrections.rt")
+
+
+class Cited(trial.Case):
+    def cited(self, page):
+        room = self.repository("cited")
+        trial.write("  pub word : Bytes\n  word = 0\n", room, "crates", "golay", "specs", "Golay.antt")
+        trial.write("pub fn encode(n: u16) -> u32 {\n", room, "crates", "golay", "src", "lib.rt")
+        trial.write("", room, "crates", "golay", "wrong", "row.edit")
+        trial.write(page, room, "docs", "PAGE.md")
+        return trial.tool(os.path.join(room, "tools", "cited"))
+
+    def test_all_there(self):
+        done = self.cited("`golay.Golay.word`, `golay::encode`, `golay/row`; `other.Golay.no`, `other::no`, `docs/no`, `a b`")
+        self.assertEqual(done, (0, b"cited: 3 citations, 0 not found\n", ""))
+
+    def test_missing(self):
+        for cite in ("golay.Golay.words", "golay.Other.word", "golay::enc", "golay/column"):
+            done = self.cited("`golay::encode` and `%s`" % cite)
+            told = "cited: not found: PAGE.md: %s\ncited: 2 citations, 1 not found\n" % cite
+            self.assertEqual(done, (1, told.encode(), ""))
+
+
+class Corrections(trial.Case):
+    def test_the_table_is_what_the_tool_makes(self):
+        room = self.repository("corrections")
+        trial.write("old", room, *CORRECTIONS)
+        self.works(trial.tool(os.path.join(room, "tools", "corrections")))
+        self.assertEqual(trial.text_of(room, *CORRECTIONS), trial.text_of(trial.ROOT, *CORRECTIONS))
+
+    def test_no_place_for_it(self):
+        room = self.repository("corrections")
+        self.fails(trial.tool(os.path.join(room, "tools", "corrections")), 1, "cannot write")
