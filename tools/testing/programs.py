@@ -82,7 +82,8 @@ class Programs(trial.Case):
         """Each record's answer comes before the next record is given."""
         tp = len(RECORDING) - 24
         self.passes_on(trial.words_of("run", "c7list"), [
-            (RECORDING[:13], b"tp what content bytes\n"), (RECORDING[13:tp], b"1 low 1 2\n"), (RECORDING[tp:], b"2 ordinary 4 1\n")])
+            (RECORDING[:13], b"tp what content bytes\n"), (RECORDING[13:tp], b"1 low 1 2\n"),
+            (RECORDING[tp:], b"2 ordinary 4 1\n")])
         self.passes_on(trial.words_of("run", "c7read"), [
             (RECORDING[:13], trial.records(SETUP)), (RECORDING[13:tp], trial.records("low 1 1122")),
             (RECORDING[tp:], trial.records("ordinary 4 33"))])

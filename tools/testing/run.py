@@ -54,8 +54,8 @@ class Run(trial.Case):
         with open(path, "wb") as file:
             file.write(b"bytes")
         self.assertEqual(self.run_tool("c7list", path), (0, b"bytes", "c7list has read 0 words\n"))
-        self.fails(self.run_tool("c7list", path + "?"), 1, "run: cannot read")
-        self.fails(self.run_tool("c7list", path, path), 2, "run: c7list reads one file, or standard input")
+        self.fails(self.run_tool("c7list", path + "?"), 1, "tools/run: cannot read")
+        self.fails(self.run_tool("c7list", path, path), 2, "tools/run: c7list reads one file, or standard input")
 
     def test_arguments_of_a_program(self):
         self.assertEqual(self.run_tool("c7index", "one file", "two", data=b"in"), (0, b"one file,two,in", ""))
@@ -76,9 +76,9 @@ class Run(trial.Case):
 
     def test_a_death(self):
         done = self.run_tool("dies")
-        self.fails(done, 1, "run: dies was ended by signal 11")
+        self.fails(done, 1, "tools/run: dies was ended by signal 11")
         self.assertEqual(done.out, b"begun\n")
-        self.fails(self.run_tool("nobody"), 1, "run: nobody: nobody reads its output any more")
+        self.fails(self.run_tool("nobody"), 1, "tools/run: nobody: nobody reads its output any more")
         self.assertEqual(self.run_tool("status"), (1, b"", ""))
 
     def test_descriptors(self):
@@ -96,8 +96,8 @@ class Run(trial.Case):
         self.passes_on(words, [(b"one\n", b"one\n"), (b"two\nthree\n", b"two\nthree\n")])
 
     def test_asked_wrongly(self):
-        self.fails(self.run_tool(), 2, "run: which program?")
+        self.fails(self.run_tool(), 2, "tools/run: which program?")
         for name in ("nothing", "../bin/c7list", ""):
-            self.fails(self.run_tool(name), 2, "run: there is no program %s: 'rt check" % name)
+            self.fails(self.run_tool(name), 2, "tools/run: there is no program %s: 'rt check" % name)
         for words in (["--help"], ["c7list", "--help"]):
             self.assertIn(b"Exit status", self.works(self.run_tool(*words)))
