@@ -1,8 +1,5 @@
 """tools/run, with stand-ins for the kit and the programs: what a program says gives the status, and is passed on."""
 import os
-import platform
-import shutil
-import tempfile
 
 import trial
 
@@ -23,28 +20,12 @@ STAND_INS = {
 
 
 class Run(trial.Case):
-    @classmethod
-    def setUpClass(cls):
-        """A repository with programs that are shell scripts, and a kit whose loader runs them."""
-        cls.room = tempfile.mkdtemp()
-        tools, bin_, kit = (os.path.join(cls.room, name) for name in ("tools", "target/bin", "kit"))
-        lib = os.path.join(kit, "on", platform.machine(), "toolchain", "lib")
-        for folder in (tools, bin_, os.path.join(kit, "bin"), lib):
-            os.makedirs(folder)
-        shutil.copy(os.path.join(trial.TOOLS, "run"), tools)
-        for path, text in [(os.path.join(bin_, name), text) for name, text in STAND_INS.items()] + [
-                (os.path.join(kit, "bin", "rt"), ""), (os.path.join(lib, "ld-linux-x86-64.so.2"), 'shift 2; exec "$@"')]:
-            with open(path, "w", encoding="ascii") as file:
-                file.write("#!/bin/bash\n%s\n" % text)
-            os.chmod(path, 0o755)
-        cls.path = os.path.join(kit, "bin") + ":" + os.environ["PATH"]
-
-    @classmethod
-    def tearDownClass(cls):
-        shutil.rmtree(cls.room)
+    def setUp(self):
+        self.room = self.repository("run")
+        self.env = trial.stand_in_kit(self.room, STAND_INS)
 
     def run_tool(self, *words, data=b"", **given):
-        return trial.run([os.path.join(self.room, "tools", "run"), *words], data, env=dict(os.environ, PATH=self.path), **given)
+        return trial.run([os.path.join(self.room, "tools", "run"), *words], data, env=self.env, **given)
 
     def test_all_well(self):
         self.assertEqual(self.run_tool("c7list", data=b"\0\n\xff"), (0, b"\0\n\xff", "c7list has read 0 words\n"))
@@ -83,7 +64,7 @@ class Run(trial.Case):
 
     def test_descriptors(self):
         closing = ["bash", "-c", 'exec "$@" <&-', "-", os.path.join(self.room, "tools", "run"), "reads"]
-        given = {"env": dict(os.environ, PATH=self.path), "stdin": None}
+        given = {"env": self.env, "stdin": None}
         done = trial.run(closing, **given)
         self.assertEqual((done.status, done.said.splitlines()[-1]), (1, "reads: cannot read"))
         closing[2:6] = ['exec "$@" 2>&-', *closing[3:5], "stops"]
@@ -92,7 +73,7 @@ class Run(trial.Case):
         self.assertEqual(trial.run(closing, **given).status, 1)
 
     def test_live(self):
-        words = ["bash", "-c", 'PATH=$1 exec "$2" talks 2>&1', "-", self.path, os.path.join(self.room, "tools", "run")]
+        words = ["bash", "-c", 'PATH=$1 exec "$2" talks 2>&1', "-", self.env["PATH"], os.path.join(self.room, "tools", "run")]
         self.passes_on(words, [(b"one\n", b"one\n"), (b"two\nthree\n", b"two\nthree\n")])
 
     def test_asked_wrongly(self):

@@ -2,6 +2,7 @@
 import collections
 import contextlib
 import os
+import platform
 import shutil
 import subprocess
 import sys
@@ -55,6 +56,21 @@ def write(text, *path):
 def text_of(*path):
     with open(os.path.join(*path), encoding="utf-8") as file:
         return file.read()
+
+
+def write_script(text, *path):
+    write("#!/bin/bash\n%s\n" % text, *path)
+    os.chmod(os.path.join(*path), 0o755)
+
+
+def stand_in_kit(room, programs, rt=""):
+    """A kit whose loader runs shell scripts, and programs that are such scripts; gives the environment for it."""
+    kit = os.path.join(room, "kit")
+    write_script('shift 2; exec "$@"', kit, "on", platform.machine(), "toolchain", "lib", "ld-linux-x86-64.so.2")
+    write_script(rt, kit, "bin", "rt")
+    for name, text in programs.items():
+        write_script(text, room, "target", "bin", name)
+    return dict(os.environ, PATH=os.path.join(kit, "bin") + ":" + os.environ["PATH"])
 
 
 def live(words):
