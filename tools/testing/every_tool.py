@@ -29,14 +29,14 @@ def little_memory():
 
 class EveryTool(trial.Case):
     def test_help(self):
-        for name in [words[0] for words, _, _ in STREAMS.values()] + OTHERS:
+        for name in [words[0] for words, _, _ in STREAMS.values()] + OTHERS + ["../demo/run"]:
             with self.subTest(name):
                 done = trial.tool(name, "--help")
                 self.assertGreater(len(self.works(done)), 100)
                 self.assertEqual(done.said, "")
 
     def test_wrong_words(self):
-        for name in [words[0] for words, _, _ in STREAMS.values()] + OTHERS:
+        for name in [words[0] for words, _, _ in STREAMS.values()] + OTHERS + ["../demo/run"]:
             with self.subTest(name):
                 self.fails(trial.tool(name, "--no-such-word"), 2, "--no-such-word")
 
