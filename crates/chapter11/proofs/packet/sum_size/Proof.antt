@@ -1,0 +1,18 @@
+-- `chapter11::packet::sum_size` meets its contract.
+-- Assumes nothing.
+use borrow.Author.Tests.{eq-eqb, ne-eqb}
+use borrow.Author.Needs.{needs}
+use Rattle.chapter11.proofs.packet.sum_size.Statement.{statement}
+use Rattle.chapter11.proofs.packet.sum_size.Tie as tie
+
+returns : tie.Need-returns
+returns c = simp (eq-eqb _ _ (c .if1 .taken))
+
+cast-result : tie.Need-cast-result
+cast-result c = search needs
+
+returns-2 : tie.Need-returns-2
+returns-2 c = simp (ne-eqb _ _ (c .if1 .left))
+
+pub sum-size-spec : {M : Type 1} → statement M
+sum-size-spec = tie.close (tie.spec returns cast-result returns-2)
