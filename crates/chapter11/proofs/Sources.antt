@@ -1,17 +1,16 @@
 -- What the Golay words of a source packet say, and what is written behind them. Assumes nothing.
 use mathlib.Core.Path.{_≡_, refl, sym, ap, _∙_}
 use mathlib.Core.Bool.{Bool, true, false}
-use mathlib.Core.List.{List, [], _∷_, _++_, append-assoc, append-nil}
+use mathlib.Core.List.{List, _++_, append-assoc, append-nil}
 use mathlib.Core.Option.{Option, none, some}
 use Prim.Native.Nat.{ℕ, _+_, _-_, _≤_, _<_}
 use native.Mathlib.Omega.{arith}
 use borrow.Author.Tests.{eqb-true, eqb-false, le-leb, lt-leb, eq-eqb, ne-eqb}
 use lib.Dec.{eqb}
-use lib.ListN.{length, getD, take, drop, length-append, length-drop, drop-of-length-le}
+use lib.ListN.{length, take, drop, length-append, length-drop, drop-of-length-le}
 use lib.Seq.{length-take-le, take-all}
 use Rattle.block.specs.Block.{Block, placed, put}
 use Rattle.block.proofs.Laws.{fits, then, blockOf, length-placed}
-use Rattle.digits.specs.Digits.{number}
 use Rattle.golay.specs.declared.Decoded.{Decoded}
 use Rattle.golay.specs.declared.Decoded.the-variants as G
 use Rattle.golay.specs.Answers.{Decodes}
@@ -26,21 +25,21 @@ use Rattle.chapter11.specs.declared.Read.{Read}
 use Rattle.chapter11.specs.declared.Read.the-variants as R
 use Rattle.chapter11.specs.declared.packet.Cut.{Cut}
 use Rattle.chapter11.specs.Packet.{two, four, channel, dataLength, headerSum, isPacket, cut, allZero, newLength, cutIn, headerFor, newHeader, rest, cutFrom, cutTill}
-use Rattle.chapter11.specs.Source.{Left, Outcome, gives, refuses, left, trailer, fieldsIn, protected, sourcePacket, composedOf, numberAt, saidOf, fieldsFrom, fieldsOf, readOf, packetOf, reassembledOf}
+use Rattle.chapter11.specs.Source.{Left, Outcome, gives, refuses, left, trailer, fieldsIn, protected, sourcePacket, composedOf, wordAt, numberAt, saidOf, fieldsFrom, fieldsOf, readOf, packetOf, reassembledOf}
 use Rattle.chapter11.proofs.Packets.{Is, is, within}
 
 -- ---- the words
 
-said-is : (sp : List ℕ) (i w : ℕ) (x : Decoded) → w ≡ number 0 (getD sp i 0 ∷ getD sp (i + 1) 0 ∷ getD sp (i + 2) 0 ∷ []) → Decodes w x
+said-is : (sp : List ℕ) (i w : ℕ) (x : Decoded) → w ≡ wordAt sp i → Decodes w x
     → saidOf (numberOf x) ≡ saidOf (numberAt sp i)
 unfolding numberAt
 said-is sp i w x e d = ap saidOf (sym (number-is w x d)) ∙ rw e
 
-pub said-word : (sp : List ℕ) (i w n c : ℕ) (x : Decoded) → w ≡ number 0 (getD sp i 0 ∷ getD sp (i + 1) 0 ∷ getD sp (i + 2) 0 ∷ []) → Decodes w x
+pub said-word : (sp : List ℕ) (i w n c : ℕ) (x : Decoded) → w ≡ wordAt sp i → Decodes w x
     → x ≡ G.Word n c → N.Is n ≡ saidOf (numberAt sp i)
 said-word sp i w n c x e d is = ap (λ (z : Decoded). saidOf (numberOf z)) (sym is) ∙ said-is sp i w x e d
 
-pub said-beyond : (sp : List ℕ) (i w : ℕ) (x : Decoded) → w ≡ number 0 (getD sp i 0 ∷ getD sp (i + 1) 0 ∷ getD sp (i + 2) 0 ∷ []) → Decodes w x
+pub said-beyond : (sp : List ℕ) (i w : ℕ) (x : Decoded) → w ≡ wordAt sp i → Decodes w x
     → x ≡ G.Beyond → N.Beyond ≡ saidOf (numberAt sp i)
 said-beyond sp i w x e d is = ap (λ (z : Decoded). saidOf (numberOf z)) (sym is) ∙ said-is sp i w x e d
 

@@ -61,9 +61,12 @@ composedOf p room =
 
 -- ---- reassembling
 
--- the number of the Golay word at index i; none beyond repair
+-- the three bytes at index i as a number, and the number of the Golay word that they are; none beyond repair
+abbrev pub wordAt : List ℕ → ℕ → ℕ
+wordAt sp i = number 0 (getD sp i 0 ∷ getD sp (i + 1) 0 ∷ getD sp (i + 2) 0 ∷ [])
+
 unfoldable pub numberAt : List ℕ → ℕ → Option ℕ
-numberAt sp i = numberOf (reading (number 0 (getD sp i 0 ∷ getD sp (i + 1) 0 ∷ getD sp (i + 2) 0 ∷ [])))
+numberAt sp i = numberOf (reading (wordAt sp i))
 
 -- what the code answers for it
 abbrev pub saidOf : Option ℕ → N.Number
