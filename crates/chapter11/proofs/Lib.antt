@@ -1,3 +1,4 @@
+pub mod Examples
 pub mod Packets
 pub mod Sources
 pub mod Theorems
