@@ -1,4 +1,5 @@
 pub mod Examples
+pub mod Outcomes
 pub mod Packets
 pub mod Sources
 pub mod Theorems

@@ -9,7 +9,7 @@ use native.Mathlib.Nat.{mod-eq-of-lt, lt-of-not-le}
 use native.Mathlib.Decide.{decLe}
 use native.Mathlib.Numerals.{add-one}
 use native.Mathlib.Omega.{arith}
-use borrow.Author.Tests.{le-leb, eq-eqb}
+use borrow.Author.Tests.{leb-true, le-leb, eq-eqb}
 use lib.Bits.{bitXor, xor-self}
 use lib.Count.{onesIn}
 use lib.Dec.{leb, lit<, lit≤}
@@ -215,20 +215,28 @@ module _ (p : List ℕ) (small : Bytes p) (i : Is p) where
         )
         (ap gives is-packet)
 
--- what is composed is a packet's source packet
-composed-is : (p : List ℕ) (room : ℕ) (sp : List ℕ) → composedOf p room ≡ gives sp → (isPacket p ≡ true) × (sp ≡ sourcePacket p)
+-- what is composed is a packet's source packet, and fits
+abbrev Composed : List ℕ → ℕ → List ℕ → Type 0
+Composed p room sp = (isPacket p ≡ true) × ((newLength p ≤ room) × (sp ≡ sourcePacket p))
+
+composed-is : (p : List ℕ) (room : ℕ) (sp : List ℕ) → composedOf p room ≡ gives sp → Composed p room sp
 unfolding composedOf
-composed-is p room sp e = go (isPacket p) (leb (newLength p) room) (allZero (cut p)) refl e
+composed-is p room sp e = go (isPacket p) (leb (newLength p) room) (allZero (cut p)) refl refl e
   where
-    none : (k : ℕ) → refuses k ≡ gives sp → (isPacket p ≡ true) × (sp ≡ sourcePacket p)
+    none : (k : ℕ) → refuses k ≡ gives sp → Composed p room sp
     none k q = let z : _≡_ {A = ℕ} 0 1 = cc in absurd (omega arith)
 
-    go : (a b c : Bool) → isPacket p ≡ a → cond a (cond b (cond c (gives (sourcePacket p)) (refuses 18)) (refuses 17)) (refuses 17) ≡ gives sp
-        → (isPacket p ≡ true) × (sp ≡ sourcePacket p)
-    go true true true is q = (is, cc)
-    go true true false is q = none 18 q
-    go true false c is q = none 17 q
-    go false b c is q = none 17 q
+    go : (a b c : Bool) → isPacket p ≡ a → leb (newLength p) room ≡ b
+        → cond a (cond b (cond c (gives (sourcePacket p)) (refuses 18)) (refuses 17)) (refuses 17) ≡ gives sp → Composed p room sp
+    go true true true is fit q = (is, (leb-true (newLength p) room fit, cc))
+    go true true false is fit q = none 18 q
+    go true false c is fit q = none 17 q
+    go false b c is fit q = none 17 q
+
+pub composed-fits : (p : List ℕ) (room : ℕ) (sp : List ℕ) → composedOf p room ≡ gives sp → length sp ≤ room
+composed-fits p room sp e =
+    let c = composed-is p room sp e in
+    omega (arith, c .1 .0, ap length (c .1 .1), source-length p (is p (c .0)))
 
 behind-words : (p : List ℕ) → drop 12 (sourcePacket p) ≡ drop 12 (newHeader p) ++ rest p
 unfolding sourcePacket
@@ -248,8 +256,8 @@ pub back : (p : List ℕ) (room : ℕ) (sp : List ℕ) (other : ℕ) → Bytes p
 back p room sp other small e fit =
     let c = composed-is p room sp e in
     let i = is p (c .0) in
-    rw (c .1)
-    (repaired p small i (sourcePacket p) (source-length p i) (behind-words p) other (rw (c .1) at fit) (as-sent p))
+    rw (c .1 .1)
+    (repaired p small i (sourcePacket p) (source-length p i) (behind-words p) other (rw (c .1 .1) at fit) (as-sent p))
 
 -- ---- less than four bytes of fill
 
