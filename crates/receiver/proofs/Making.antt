@@ -41,16 +41,17 @@ use Rattle.receiver.specs.Low.{llep}
 use Rattle.receiver.specs.Lows.{andThen, lows, lowsOf, oneOf, passedBy, toldOf}
 use Rattle.receiver.specs.Turns.{advanceOf}
 use Rattle.receiver.specs.Outset.{placeOf, setOutOf, uponOf}
-use Rattle.receiver.specs.Pieces.{dueTurn, llepTurn, outTurn, ordinaryTurn, readOf, sameTurn, stageTurn, topTurn, turnOf, stepOf, topOf}
+use Rattle.receiver.specs.Pieces.{dueTurn, llepTurn, outTurn, ordinaryTurn, sameTurn, stageTurn, topTurn, turnOf, stepOf, topOf}
 use Rattle.receiver.specs.Turn.{Makes, putOf}
 use Rattle.receiver.specs.InWalk.{Carries, roomOf}
 use Rattle.receiver.specs.InStages.{Leads, Lent, Onward}
 use Rattle.receiver.specs.State.{Able, Settled, Sound, Staged, pullOf}
-use Rattle.receiver.proofs.Advancing.{put-room, walkOf}
+use Rattle.receiver.proofs.Advancing.{put-room}
 use Rattle.receiver.proofs.Answering.{call-six}
 use Rattle.receiver.proofs.Bodies.{advance-carries, room-length}
 use Rattle.receiver.proofs.Calling.{drop-gives, gone-gives, low-gives, pullOf-none, same-gives, tell-gives}
 use Rattle.receiver.proofs.Parting.{behind-in, due-behind, due-outside, set-loses, set-reads}
+use Rattle.receiver.proofs.Piecing.{piece-of}
 use Rattle.receiver.proofs.TakingUp.{fresh-top, freshBy, says-small}
 use Rattle.receiver.proofs.Heading.{Bytes}
 use Rattle.receiver.proofs.Walking.{inside-at}
@@ -183,10 +184,6 @@ module _ (r : Receiver) (tp m : List ℕ) (able : Able r) (whole : length tp ≡
     plain-by (Stop a) m′ t l =
         tell-gives r tp m′ m (able .size) whole full a (pullOf (length m) w tp m) (t .same) (t .sound) (t .gained) (pullOf-none (length m) w tp m) l
 
-    piece-of : (t : Turn) → ordinaryTurn t r .piece ≡ readOf w (walkOf t)
-    piece-of (More x) = refl
-    piece-of (Stop a) = refl
-
     sound : Sound (r .limit) (length tp) w
     sound = subst (λ (n : ℕ). Sound (r .limit) n w) (sym whole) (able .walk)
 
@@ -194,7 +191,7 @@ module _ (r : Receiver) (tp m : List ℕ) (able : Able r) (whole : length tp ≡
     plain-made =
         let t = advanceOf (r .limit) w tp in
         let d = subst (λ (n : ℕ). Carries n w tp m t (roomOf w tp m)) (sym full) (advance-carries (r .limit) tp m full bytes w sound) in
-        let e = ap (λ (p : Piece). putOf p tp m) (piece-of t) ∙ put-room (r .limit) w tp m in
+        let e = ap (λ (p : Piece). putOf p tp m) (piece-of r t) ∙ put-room (r .limit) w tp m in
         subst (λ (m′ : List ℕ). Made (ordinaryTurn t r .told) Plain (ordinaryCall r (pullOf (length m) w tp m)) r tp m (ordinaryTurn t r .receiver) m′) (sym e)
         (plain-by t (roomOf w tp m) d (room-length (r .limit) w tp m full sound ∙ sym full))
 

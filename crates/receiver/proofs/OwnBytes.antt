@@ -51,6 +51,7 @@ use Rattle.receiver.proofs.Bringing.{Brings}
 use Rattle.receiver.proofs.Eventing.{advance-brings}
 use Rattle.receiver.proofs.Heading.{Bytes}
 use Rattle.receiver.proofs.Parting.{outset-at, placed}
+use Rattle.receiver.proofs.Piecing.{piece-of}
 use Rattle.receiver.proofs.SettingOut.{by-at, by-bad, by-off, settled-todo, upon-frame, upon-todo}
 use Rattle.receiver.proofs.Brought.{Takes, brought, llepBrings, ownOf, stageBrings, startBrings, tells, topBrings}
 
@@ -155,10 +156,6 @@ module _ (r : Receiver) (tp m : List ℕ) where
       by (G.Notice n) b = record { taken = b .taken; frame = b .frame; told = b .told; held = b .held; finds = b .finds }
       by (G.Packet c n) b = record { taken = b .taken; frame = b .frame; told = b .told; held = b .held; finds = b .finds }
 
-  piece-of : (t : Turn) → ordinaryTurn t r .piece ≡ readOf (r .walk) (walkOf t)
-  piece-of (More x) = refl
-  piece-of (Stop a) = refl
-
 abbrev TakesOf : Heard → Receiver → List ℕ → List ℕ → Turned → Type 0
 TakesOf h r tp m q = Takes h r tp m q (putOf (q .piece) tp m)
 
@@ -167,7 +164,7 @@ module _ (r : Receiver) (tp m : List ℕ) (able : Able r) (bytes : Bytes tp) (fu
   plain-takes =
       let t = advanceOf (r .limit) (r .walk) tp in
       let s = subst (λ (n : ℕ). Sound (r .limit) n (r .walk)) (sym whole) (able .walk) in
-      let e = ap (λ (p : Piece). putOf p tp m) (piece-of r tp m t) ∙ put-room (r .limit) (r .walk) tp m in
+      let e = ap (λ (p : Piece). putOf p tp m) (piece-of r t) ∙ put-room (r .limit) (r .walk) tp m in
       subst (λ (m′ : List ℕ). Takes (stageBrings Plain r tp (ownOf (ordinaryTurn t r .piece) tp)) r tp m (ordinaryTurn t r) m′) (sym e)
       (turn-takes r tp m t (roomOf (r .walk) tp m) (advance-brings (r .limit) (r .walk) tp m full bytes s))
 

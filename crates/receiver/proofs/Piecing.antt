@@ -1,5 +1,5 @@
 -- Which clause of a piece's definition a test chooses. Assumes nothing.
-use mathlib.Core.Path.{ap, sym, _≡_}
+use mathlib.Core.Path.{ap, refl, sym, _≡_}
 use mathlib.Core.List.{List}
 use Prim.Native.Nat.{ℕ}
 use lib.ListN.{length}
@@ -9,7 +9,9 @@ use Rattle.receiver.specs.declared.low.Llep.{Llep}
 use Rattle.receiver.specs.declared.outset.Place.{Place}
 use Rattle.receiver.specs.declared.outset.Start.{Start}
 use Rattle.receiver.specs.declared.walk.Turn.{Turn}
-use Rattle.receiver.specs.Pieces.{dueTurn, llepTurn, outTurn, ordinaryTurn, topTurn}
+use Rattle.receiver.specs.declared.walk.Turn.the-variants.{More, Stop}
+use Rattle.receiver.specs.Pieces.{dueTurn, llepTurn, ordinaryTurn, outTurn, readOf, topTurn}
+use Rattle.receiver.proofs.Advancing.{walkOf}
 
 module _ (r : Receiver) where
   pub top-turn : (t u : Top) (len : ℕ) → t ≡ u → topTurn u r len ≡ topTurn t r len
@@ -26,3 +28,8 @@ module _ (r : Receiver) where
 
   pub plain-turn : (t u : Turn) → t ≡ u → ordinaryTurn u r ≡ ordinaryTurn t r
   plain-turn t u e = ap (λ (t : Turn). ordinaryTurn t r) (sym e)
+
+  -- the piece of a turn among ordinary bytes
+  pub piece-of : (t : Turn) → ordinaryTurn t r .piece ≡ readOf (r .walk) (walkOf t)
+  piece-of (More x) = refl
+  piece-of (Stop a) = refl
