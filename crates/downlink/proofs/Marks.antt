@@ -42,7 +42,7 @@ before-take (suc n) ((true, b) ∷ x) = rw min-zero
 before-take (suc n) ((false, b) ∷ x) = rw suc-min-suc (ap suc (before-take n x))
 
 pub drop-min : (n : ℕ) (x : Cells) → drop (min n (length x)) x ≡ drop n x
-drop-min n [] = rw (drop-nil, drop-nil)
+drop-min n [] = drop-nil (min n 0) ∙ sym (drop-nil n)
 drop-min zero (a ∷ x) = rw zero-min
 drop-min (suc n) (a ∷ x) = rw suc-min-suc (drop-min n x)
 

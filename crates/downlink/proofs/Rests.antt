@@ -132,10 +132,6 @@ module _ (cap : ℕ) where
   MetOk f (dry s m) = FrameOk f × HeldOk (need f) s m × (length m ≡ cap)
   MetOk f (found x s m es) = FindOk x m × Rests f es s m × (length m ≡ cap)
 
-  within-ok : (h : Header) (n : ℕ) (s : Held wire) (m : List ℕ) → HeldOk n s m → FrameOk (within wire h n) × HeldOk (need (within wire h n)) s m
-  within-ok h zero s m ok = (tt, ok)
-  within-ok h (suc k) s m ok = (tt, ok)
-
   handed-ok : (s : Held wire) (m : List ℕ) → HeldOk 0 s m → length m ≡ cap → MetOk idle (met wire (handed wire s .1) (handed wire s .0) m [] (dry (handed wire s .0) m))
   handed-ok free m ok l = (tt, tt, l)
   handed-ok (held c d) m ok l = (ok .1, still idle free m tt tt, l)

@@ -54,6 +54,23 @@ module _ (size str F P room : ℕ) (top : P ≤ 2047) (size-is : size ≡ 4 + P)
 
   -- ---- the low-latency packets that are due
 
+  -- those of one TP, and those that wait
+  module _ (t : Tp) (l : Load) (is : TpIs P str F top t l) (ls : List Load) (z : List Packet) where
+    abbrev waiting : List Packet
+    waiting = (l .now ++ nows ls) ++ z
+
+    count : length (l .now) ≡ length (t .lleps)
+    count = sym (ap length (is .lleps-are) ∙ lleps-length (l .now))
+
+    these : take (length (t .lleps)) waiting ≡ l .now
+    these = ap (take (length (t .lleps))) (append-assoc (l .now) (nows ls) z) ∙ take-at (l .now) (nows ls ++ z) (length (t .lleps)) count
+
+    others : drop (length (t .lleps)) waiting ≡ nows ls ++ z
+    others = ap (drop (length (t .lleps))) (append-assoc (l .now) (nows ls) z) ∙ drop-at (l .now) (nows ls ++ z) (length (t .lleps)) count
+
+  abbrev payload : ℕ → Tp → List Place
+  payload n t = drop 4 (placesIn n 0 (t .bytes))
+
   module _ (arrived : ℕ → Bool) where
     -- with the bytes that these TPs have at their places
     pub lows-got : (pre : List (List ℕ)) (n : ℕ) (ts : List Tp) (ls : List Load) (rs : List (List ℕ)) (z : List Packet)
@@ -64,35 +81,26 @@ module _ (size str F P room : ℕ) (top : P ≤ 2047) (size-is : size ≡ 4 + P)
     lows-got pre n (t ∷ ts) [] rs z p same is = absurd is
     lows-got pre n (t ∷ ts) (l ∷ ls) [] z p same is = absurd same
     lows-got pre n (t ∷ ts) (l ∷ ls) (r ∷ rs) z p same is =
-        map-append (read f) (cond (arrived n) (lowsIn (take m ps) row) []) (lowsDue arrived (suc n) (drop m ps) ts)
+        map-append (read f) (cond (arrived n) (lowsIn now (payload n t)) []) (lowsDue arrived (suc n) later ts)
         ∙ ap₂ (λ (a b : List Packet). a ++ b)
         (go (arrived n))
-        (ap (λ (qs : List Packet). map (read f) (lowsDue arrived (suc n) qs ts)) (ap (drop m) e ∙ drop-at (l .now) (nows ls ++ z) m m-is)
+        (ap (λ (qs : List Packet). map (read f) (lowsDue arrived (suc n) qs ts)) (others t l (is .0) ls z)
         ∙ ap (λ (tps : List (List ℕ)). map (read (byteAt tps)) (lowsDue arrived (suc n) (nows ls ++ z) ts)) (sym (append-snoc pre r rs))
         ∙ lows-got (pre ++ r ∷ []) (suc n) ts ls rs z (omega (arith, length-append pre (r ∷ []))) (same .1) (is .1))
       where
-        m : ℕ
-        m = length (t .lleps)
-
-        m-is : length (l .now) ≡ m
-        m-is = sym (ap length (is .0 .lleps-are) ∙ lleps-length (l .now))
-
-        ps : List Packet
-        ps = (l .now ++ nows ls) ++ z
-
-        e : ps ≡ l .now ++ (nows ls ++ z)
-        e = append-assoc (l .now) (nows ls) z
-
         f : Place → ℕ
         f = byteAt (pre ++ r ∷ rs)
 
-        row : List Place
-        row = drop 4 (placesIn n 0 (t .bytes))
+        now : List Packet
+        now = take (length (t .lleps)) (waiting t l (is .0) ls z)
 
-        go : (b : Bool) → map (read f) (cond b (lowsIn (take m ps) row) []) ≡ cond b (lowsBy (l .now) (drop 4 r)) []
+        later : List Packet
+        later = drop (length (t .lleps)) (waiting t l (is .0) ls z)
+
+        go : (b : Bool) → map (read f) (cond b (lowsIn now (payload n t)) []) ≡ cond b (lowsBy (l .now) (drop 4 r)) []
         go true =
-            lows-read f (take m ps) row
-            ∙ ap₂ (λ (a : List Packet) (b : List ℕ). lowsBy a b) (ap (take m) e ∙ take-at (l .now) (nows ls ++ z) m m-is)
+            lows-read f now (payload n t)
+            ∙ ap₂ (λ (a : List Packet) (b : List ℕ). lowsBy a b) (these t l (is .0) ls z)
             (map-drop f 4 (placesIn n 0 (t .bytes)) ∙ ap (drop 4) (row-at pre n t r rs p (same .0)))
         go false = refl
 
@@ -105,29 +113,19 @@ module _ (size str F P room : ℕ) (top : P ≤ 2047) (size-is : size ≡ 4 + P)
     lows-sent n (t ∷ ts) (l ∷ ls) z is =
         ap₂ (λ (a b : List Packet). a ++ b)
         (go (arrived n))
-        (lows-sent (suc n) ts ls z (is .1)
-        ∙ ap (λ (qs : List Packet). map asOffered (lowsDue arrived (suc n) qs ts)) (sym (ap (drop m) e ∙ drop-at (l .now) (nows ls ++ z) m m-is)))
-        ∙ sym (map-append asOffered (cond (arrived n) (lowsIn (take m ps) row) []) (lowsDue arrived (suc n) (drop m ps) ts))
+        (lows-sent (suc n) ts ls z (is .1) ∙ ap (λ (qs : List Packet). map asOffered (lowsDue arrived (suc n) qs ts)) (sym (others t l (is .0) ls z)))
+        ∙ sym (map-append asOffered (cond (arrived n) (lowsIn now (payload n t)) []) (lowsDue arrived (suc n) later ts))
       where
-        m : ℕ
-        m = length (t .lleps)
+        now : List Packet
+        now = take (length (t .lleps)) (waiting t l (is .0) ls z)
 
-        m-is : length (l .now) ≡ m
-        m-is = sym (ap length (is .0 .lleps-are) ∙ lleps-length (l .now))
+        later : List Packet
+        later = drop (length (t .lleps)) (waiting t l (is .0) ls z)
 
-        ps : List Packet
-        ps = (l .now ++ nows ls) ++ z
-
-        e : ps ≡ l .now ++ (nows ls ++ z)
-        e = append-assoc (l .now) (nows ls) z
-
-        row : List Place
-        row = drop 4 (placesIn n 0 (t .bytes))
-
-        go : (b : Bool) → cond b (lowsBy (l .now) (drop 4 (t .bytes))) [] ≡ map asOffered (cond b (lowsIn (take m ps) row) [])
+        go : (b : Bool) → cond b (lowsBy (l .now) (drop 4 (t .bytes))) [] ≡ map asOffered (cond b (lowsIn now (payload n t)) [])
         go true =
             ap (lowsBy (l .now)) (payload-is P str F top t l (is .0)) ∙ lows-back (l .now) (bytes wire (l .own))
-            ∙ sym (lows-offered (take m ps) row ∙ ap (take m) e ∙ take-at (l .now) (nows ls ++ z) m m-is)
+            ∙ sym (lows-offered now (payload n t) ∙ these t l (is .0) ls z)
         go false = refl
 
   -- ---- the ordinary bytes that arrived, marked as they were sent
