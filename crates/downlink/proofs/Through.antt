@@ -10,7 +10,7 @@ use lib.Dec.{leb}
 use lib.ListN.{take}
 use borrow.Author.Tests.{le-leb, lt-leb, leb-true}
 use Rattle.downlink.specs.Demand.{total, begunThere, lastDrawn}
-use Rattle.downlink.specs.Gaps.{onward, through}
+use Rattle.downlink.specs.Gaps.{upTo, through}
 use Rattle.downlink.proofs.Within.{inside}
 use Rattle.downlink.proofs.Lows.{split}
 use Rattle.downlink.proofs.Gaps.{unbroken, begins}
@@ -33,19 +33,19 @@ module _ (arrived : ℕ → Bool) where
       go false e = refl
 
   -- begun in it
-  begun : (n from to : ℕ) (ms : List ℕ) (a b : ℕ) → from ≤ a → a < to → unbroken arrived n from to ms a b ≡ leb b to || onward arrived n ms (b - to)
+  begun : (n from to : ℕ) (ms : List ℕ) (a b : ℕ) → from ≤ a → a < to → unbroken arrived n from to ms a b ≡ leb b to || upTo arrived n ms (b - to)
   begun n from to [] a b p q = rw (le-leb from a p) (sym (or-false (leb b to)))
   begun n from to (m ∷ ms) a b p q =
       go (arrived n) (begun (suc n) from (to + m) ms a b p (omega arith)) (too-early (suc n) (to + m) (to + m) ms a b (omega arith) (omega arith))
     where
-      go : (x : Bool) → unbroken arrived (suc n) from (to + m) ms a b ≡ leb b (to + m) || onward arrived (suc n) ms (b - (to + m))
+      go : (x : Bool) → unbroken arrived (suc n) from (to + m) ms a b ≡ leb b (to + m) || upTo arrived (suc n) ms (b - (to + m))
           → unbroken arrived (suc n) (to + m) (to + m) ms a b ≡ false
           → cond x (unbroken arrived (suc n) from (to + m) ms a b) (inside from to a b || unbroken arrived (suc n) (to + m) (to + m) ms a b)
-          ≡ leb b to || x && (leb (b - to) m || onward arrived (suc n) ms (b - to - m))
+          ≡ leb b to || x && (leb (b - to) m || upTo arrived (suc n) ms (b - to - m))
       go true ih none =
           let e : b - (to + m) ≡ b - to - m = omega arith in
           let f : leb b (to + m) ≡ leb (b - to) m = leb-both b (to + m) (b - to) m (λ h. omega arith) (λ h. omega arith) in
-          ih ∙ ap (λ (k : ℕ). leb b (to + m) || onward arrived (suc n) ms k) e ∙ ap (λ z. z || onward arrived (suc n) ms (b - to - m)) f
+          ih ∙ ap (λ (k : ℕ). leb b (to + m) || upTo arrived (suc n) ms k) e ∙ ap (λ z. z || upTo arrived (suc n) ms (b - to - m)) f
           ∙ ⊎-elim
           (λ h. let g : b - to ≤ m = omega arith in rw (le-leb (b - to) m g, le-leb b to h))
           (λ h. rw (lt-leb b to h))
@@ -66,7 +66,7 @@ module _ (arrived : ℕ → Bool) where
       one x = cond x (unbroken arrived (suc n) from (to + m) ms a b) (inside from to a b || unbroken arrived (suc n) (to + m) (to + m) ms a b)
 
       said : Bool → Bool
-      said x = cond (leb m (a - to)) (through arrived (suc n) ms (a - to - m) (b - to - m)) (x && (leb (b - to) m || onward arrived (suc n) ms (b - to - m)))
+      said x = cond (leb m (a - to)) (through arrived (suc n) ms (a - to - m) (b - to - m)) (x && (leb (b - to) m || upTo arrived (suc n) ms (b - to - m)))
 
       none : inside from to a b ≡ false
       none = rw (le-leb from a (omega arith), lt-leb b to (omega arith))
@@ -79,7 +79,7 @@ module _ (arrived : ℕ → Bool) where
       far h x on new =
           let f : a - (to + m) ≡ a - to - m = omega arith in
           let g = ap₂ (λ (y z : ℕ). through arrived (suc n) ms y z) f e in
-          ways x on new ∙ g ∙ sym (ap (λ t. cond t (through arrived (suc n) ms (a - to - m) (b - to - m)) (x && (leb (b - to) m || onward arrived (suc n) ms (b - to - m)))) (le-leb m (a - to) h))
+          ways x on new ∙ g ∙ sym (ap (λ t. cond t (through arrived (suc n) ms (a - to - m) (b - to - m)) (x && (leb (b - to) m || upTo arrived (suc n) ms (b - to - m)))) (le-leb m (a - to) h))
         where
           ways : (x : Bool) → unbroken arrived (suc n) from (to + m) ms a b ≡ through arrived (suc n) ms (a - (to + m)) (b - (to + m))
               → unbroken arrived (suc n) (to + m) (to + m) ms a b ≡ through arrived (suc n) ms (a - (to + m)) (b - (to + m))
@@ -87,23 +87,23 @@ module _ (arrived : ℕ → Bool) where
           ways true on new = on
           ways false on new = ap (λ z. z || unbroken arrived (suc n) (to + m) (to + m) ms a b) none ∙ new
 
-      near : a - to < m → (x : Bool) → unbroken arrived (suc n) from (to + m) ms a b ≡ leb b (to + m) || onward arrived (suc n) ms (b - (to + m))
+      near : a - to < m → (x : Bool) → unbroken arrived (suc n) from (to + m) ms a b ≡ leb b (to + m) || upTo arrived (suc n) ms (b - (to + m))
           → unbroken arrived (suc n) (to + m) (to + m) ms a b ≡ false → one x ≡ said x
       near h true on new =
           let f : leb b (to + m) ≡ leb (b - to) m = leb-both b (to + m) (b - to) m (λ h. omega arith) (λ h. omega arith) in
-          on ∙ ap₂ (λ (y : Bool) (z : ℕ). y || onward arrived (suc n) ms z) f e
-          ∙ sym (ap (λ t. cond t (through arrived (suc n) ms (a - to - m) (b - to - m)) (leb (b - to) m || onward arrived (suc n) ms (b - to - m))) (lt-leb m (a - to) h))
+          on ∙ ap₂ (λ (y : Bool) (z : ℕ). y || upTo arrived (suc n) ms z) f e
+          ∙ sym (ap (λ t. cond t (through arrived (suc n) ms (a - to - m) (b - to - m)) (leb (b - to) m || upTo arrived (suc n) ms (b - to - m))) (lt-leb m (a - to) h))
       near h false on new =
           ap₂ (λ (y z : Bool). y || z) none new
           ∙ sym (ap (λ t. cond t (through arrived (suc n) ms (a - to - m) (b - to - m)) false) (lt-leb m (a - to) h))
 
   -- what is due was drawn
-  onward-drawn : (n : ℕ) (ms : List ℕ) (b : ℕ) → onward arrived n ms b ≡ true → b ≤ total ms
-  onward-drawn n [] b h = absurd (let z : _≡_ {A = ℕ} 0 1 = cc in omega arith)
-  onward-drawn n (m ∷ ms) b h = go (arrived n) (leb b m) refl (λ k. onward-drawn (suc n) ms (b - m) k) h
+  up-to-drawn : (n : ℕ) (ms : List ℕ) (b : ℕ) → upTo arrived n ms b ≡ true → b ≤ total ms
+  up-to-drawn n [] b h = absurd (let z : _≡_ {A = ℕ} 0 1 = cc in omega arith)
+  up-to-drawn n (m ∷ ms) b h = go (arrived n) (leb b m) refl (λ k. up-to-drawn (suc n) ms (b - m) k) h
     where
-      go : (x y : Bool) → leb b m ≡ y → (onward arrived (suc n) ms (b - m) ≡ true → b - m ≤ total ms)
-          → x && (y || onward arrived (suc n) ms (b - m)) ≡ true → b ≤ m + total ms
+      go : (x y : Bool) → leb b m ≡ y → (upTo arrived (suc n) ms (b - m) ≡ true → b - m ≤ total ms)
+          → x && (y || upTo arrived (suc n) ms (b - m)) ≡ true → b ≤ m + total ms
       go true true e f h = omega (arith, leb-true b m e)
       go true false e f h = omega (arith, f h)
       go false y e f h = absurd (let z : _≡_ {A = ℕ} 0 1 = cc in omega arith)
@@ -111,11 +111,11 @@ module _ (arrived : ℕ → Bool) where
   pub through-drawn : (n : ℕ) (ms : List ℕ) (a b : ℕ) → through arrived n ms a b ≡ true → b ≤ total ms
   through-drawn n [] a b h = absurd (let z : _≡_ {A = ℕ} 0 1 = cc in omega arith)
   through-drawn n (m ∷ ms) a b h =
-      go (leb m a) (arrived n) (leb b m) refl (λ k. through-drawn (suc n) ms (a - m) (b - m) k) (onward-drawn (suc n) ms (b - m)) h
+      go (leb m a) (arrived n) (leb b m) refl (λ k. through-drawn (suc n) ms (a - m) (b - m) k) (up-to-drawn (suc n) ms (b - m)) h
     where
       go : (w x y : Bool) → leb b m ≡ y → (through arrived (suc n) ms (a - m) (b - m) ≡ true → b - m ≤ total ms)
-          → (onward arrived (suc n) ms (b - m) ≡ true → b - m ≤ total ms)
-          → cond w (through arrived (suc n) ms (a - m) (b - m)) (x && (y || onward arrived (suc n) ms (b - m))) ≡ true → b ≤ m + total ms
+          → (upTo arrived (suc n) ms (b - m) ≡ true → b - m ≤ total ms)
+          → cond w (through arrived (suc n) ms (a - m) (b - m)) (x && (y || upTo arrived (suc n) ms (b - m))) ≡ true → b ≤ m + total ms
       go true x y e f g h = omega (arith, f h)
       go false true true e f g h = omega (arith, leb-true b m e)
       go false true false e f g h = omega (arith, g h)
@@ -125,13 +125,13 @@ module _ (arrived : ℕ → Bool) where
 
 module _ (k : ℕ) where
   -- all that follow arrived
-  onward-on : (n : ℕ) (ms : List ℕ) (b : ℕ) → k ≤ n → 0 < b → onward (leb k) n ms b ≡ leb b (total ms)
-  onward-on n [] b p q = sym (lt-leb b 0 q)
-  onward-on n (m ∷ ms) b p q =
-      ap (λ x. x && (leb b m || onward (leb k) (suc n) ms (b - m))) (le-leb k n p)
+  up-to-on : (n : ℕ) (ms : List ℕ) (b : ℕ) → k ≤ n → 0 < b → upTo (leb k) n ms b ≡ leb b (total ms)
+  up-to-on n [] b p q = sym (lt-leb b 0 q)
+  up-to-on n (m ∷ ms) b p q =
+      ap (λ x. x && (leb b m || upTo (leb k) (suc n) ms (b - m))) (le-leb k n p)
       ∙ ⊎-elim
-      (λ h. ap (λ x. x || onward (leb k) (suc n) ms (b - m)) (le-leb b m h) ∙ sym (le-leb b (m + total ms) (omega arith)))
-      (λ h. ap (λ x. x || onward (leb k) (suc n) ms (b - m)) (lt-leb b m h) ∙ onward-on (suc n) ms (b - m) (omega arith) (omega arith)
+      (λ h. ap (λ x. x || upTo (leb k) (suc n) ms (b - m)) (le-leb b m h) ∙ sym (le-leb b (m + total ms) (omega arith)))
+      (λ h. ap (λ x. x || upTo (leb k) (suc n) ms (b - m)) (lt-leb b m h) ∙ up-to-on (suc n) ms (b - m) (omega arith) (omega arith)
       ∙ leb-both (b - m) (total ms) b (m + total ms) (λ z. omega arith) (λ z. omega arith))
       (split b m)
 
@@ -139,10 +139,10 @@ module _ (k : ℕ) where
   through-on n [] a b p q = sym (lt-leb b 0 (omega arith))
   through-on n (m ∷ ms) a b p q =
       ⊎-elim
-      (λ h. ap (λ x. cond x (through (leb k) (suc n) ms (a - m) (b - m)) (onward (leb k) n (m ∷ ms) b)) (le-leb m a h)
+      (λ h. ap (λ x. cond x (through (leb k) (suc n) ms (a - m) (b - m)) (upTo (leb k) n (m ∷ ms) b)) (le-leb m a h)
       ∙ through-on (suc n) ms (a - m) (b - m) (omega arith) (omega arith)
       ∙ leb-both (b - m) (total ms) b (m + total ms) (λ z. omega arith) (λ z. omega arith))
-      (λ h. ap (λ x. cond x (through (leb k) (suc n) ms (a - m) (b - m)) (onward (leb k) n (m ∷ ms) b)) (lt-leb m a h) ∙ onward-on n (m ∷ ms) b p (omega arith))
+      (λ h. ap (λ x. cond x (through (leb k) (suc n) ms (a - m) (b - m)) (upTo (leb k) n (m ∷ ms) b)) (lt-leb m a h) ∙ up-to-on n (m ∷ ms) b p (omega arith))
       (split m a)
 
   pub from-k : (n j : ℕ) (ms : List ℕ) (a b : ℕ) → k ≡ n + j → a < b
@@ -152,12 +152,12 @@ module _ (k : ℕ) where
   from-k n (suc j) (m ∷ ms) a b p q =
       let early : leb k n ≡ false = lt-leb k n (omega arith) in
       ⊎-elim
-      (λ h. ap (λ x. cond x (through (leb k) (suc n) ms (a - m) (b - m)) (onward (leb k) n (m ∷ ms) b)) (le-leb m a h)
+      (λ h. ap (λ x. cond x (through (leb k) (suc n) ms (a - m) (b - m)) (upTo (leb k) n (m ∷ ms) b)) (le-leb m a h)
       ∙ from-k (suc n) j ms (a - m) (b - m) (omega arith) (omega arith)
       ∙ ap₂ (λ (x y : Bool). x && y)
       (leb-both (total (take j ms)) (a - m) (m + total (take j ms)) a (λ z. omega arith) (λ z. omega arith))
       (leb-both (b - m) (total ms) b (m + total ms) (λ z. omega arith) (λ z. omega arith)))
-      (λ h. ap (λ x. cond x (through (leb k) (suc n) ms (a - m) (b - m)) (onward (leb k) n (m ∷ ms) b)) (lt-leb m a h)
-      ∙ ap (λ x. x && (leb b m || onward (leb k) (suc n) ms (b - m))) early
+      (λ h. ap (λ x. cond x (through (leb k) (suc n) ms (a - m) (b - m)) (upTo (leb k) n (m ∷ ms) b)) (lt-leb m a h)
+      ∙ ap (λ x. x && (leb b m || upTo (leb k) (suc n) ms (b - m))) early
       ∙ sym (ap (λ x. x && leb b (m + total ms)) (lt-leb (m + total (take j ms)) a (omega arith))))
       (split m a)

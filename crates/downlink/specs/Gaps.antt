@@ -17,17 +17,16 @@ heardOf arrived told n (r ∷ rs) =
     cond (arrived n) (tpIn r ∷ heardOf arrived false (suc n) rs)
     (cond told (heardOf arrived true (suc n) rs) (gapTold ∷ heardOf arrived true (suc n) rs))
 
--- "every TP from the first byte to the last arrived": of TPs that carry so many ordinary bytes, of which the first has the number n, all from
--- the one with byte `first` to the one with the byte before `end`; those between them that carry no ordinary byte included
-abbrev pub onward : (ℕ → Bool) → ℕ → List ℕ → ℕ → Bool
-onward arrived n [] end = false
-onward arrived n (m ∷ ms) end = arrived n && (leb end m || onward arrived (suc n) ms (end - m))
+-- of TPs that carry so many ordinary bytes, of which the first has the number n: all arrived up to the one with the byte before `end`, those
+-- that carry no ordinary byte included
+abbrev pub upTo : (ℕ → Bool) → ℕ → List ℕ → ℕ → Bool
+upTo arrived n [] end = false
+upTo arrived n (m ∷ ms) end = arrived n && (leb end m || upTo arrived (suc n) ms (end - m))
 
+-- "every TP from the first byte to the last arrived": from the one with byte `first` on
 abbrev pub through : (ℕ → Bool) → ℕ → List ℕ → ℕ → ℕ → Bool
 through arrived n [] first end = false
-through arrived n (m ∷ ms) first end =
-    cond (leb m first) (through arrived (suc n) ms (first - m) (end - m))
-    (arrived n && (leb end m || onward arrived (suc n) ms (end - m)))
+through arrived n (m ∷ ms) first end = cond (leb m first) (through arrived (suc n) ms (first - m) (end - m)) (upTo arrived n (m ∷ ms) end)
 
 -- where this holds of the link, a receiver that is called over the TPs that arrived, each until it ends, and told of the gaps, does this
 abbrev pub WithGaps : (Link → Type 0) → (Link → (ℕ → Bool) → (ℕ → ℕ → Bool) → List Input → List (List Called) → Type 0) → Type 0
