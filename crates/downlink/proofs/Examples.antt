@@ -1,8 +1,8 @@
 -- Document 01's example 6 against the statement: what is due. So a receiver that hands out nothing there, one that idles after the
 -- first TP, and one that hands out a packet where none was sent, are shut out. Assumes nothing.
-use mathlib.Core.Path.{_≡_, refl}
+use mathlib.Core.Path.{_≡_, refl, ap, _∙_}
 use mathlib.Core.Bool.{true, false, not}
-use mathlib.Core.List.{List, [], _∷_, flatten}
+use mathlib.Core.List.{List, [], _∷_, flatten, map}
 use Prim.Native.Nat.{ℕ}
 use native.Mathlib.Omega.{arith}
 use lib.Dec.{leb, eqb}
@@ -11,16 +11,21 @@ use Rattle.golay.specs.Golay.{codeWord, chosen}
 use Rattle.wire.specs.Wire.{word, firstNumber, header, ep, streamByte, offsetNumber, tpHeader}
 use Rattle.queue.specs.Ring.{around, held, longer, written, wrap, off}
 use Rattle.sender.specs.Answers.{lent}
-use Rattle.sender.specs.Opening.{fresh}
+use Rattle.sender.specs.Opening.{allowed, small, fresh, opened}
+use Rattle.receiver.specs.Call.{freshOf}
 use Rattle.sender.specs.Offering.{pieces, spBytes, known, wantOrdinary, ordinaryOffered, wantLow, lowOffered}
 use Rattle.sender.specs.Drawing.{headAt, sizeIn, contentIn, lowIn, lowAt, overwritten, leave, part, fill, lacking, stream, owedAfter, span, under, offset, drawWith, drawOf, drawBy}
 use Rattle.sender.specs.Drawing as D
 use Rattle.sender.specs.Run.{Tp, Call, ordinary, low, draw, World, Deed, took, tookLow, drew, deeds, tps}
-use Rattle.downlink.specs.Hearing.{Packet}
-use Rattle.downlink.specs.Due.{lowsOf, ordinariesOf, Right}
-use Rattle.downlink.specs.Demand.{wholeFrom}
+use Rattle.downlink.specs.Hearing as H
+use Rattle.downlink.specs.Hearing.{Called, Hears, tpsIn, Packet, handedOut}
+use Rattle.downlink.specs.Damage.{drawn}
+use Rattle.downlink.specs.Due.{asOffered, lowsOf, ordinariesOf, Right}
+use Rattle.downlink.specs.Demand.{wholeFrom, Link}
 use Rattle.downlink.specs.Gaps.{through}
 use Rattle.downlink.proofs.Own.{unchanged}
+use Rattle.downlink.proofs.Intact.{undamaged}
+use Rattle.downlink.proofs.Demanded.{as-queue-is-roomy, demand3-unchanged}
 
 unfoldable pub room : List ℕ
 room = replicate 64 0
@@ -100,6 +105,35 @@ pub fixed : (r : List ℕ) (p : Packet) (ps os : List Packet)
     → (From 0 (drew blank ∷ []) (r ∷ []) (p ∷ ps) os → ⊥) × (From 0 (drew blank ∷ []) (r ∷ []) os (p ∷ ps) → ⊥)
 unfolding blank part flatten
 fixed r p ps os = (λ x. x .low, λ x. x .ordinary)
+
+-- ---- both ends
+
+-- its sender, and a receiver with a room as long as the queue; nothing changed on the way
+unfoldable pub link : Link
+unfolding world room opened allowed small
+link =
+    record {
+      size = 16;
+      stream = 0;
+      piece = 65535;
+      world = world;
+      listener = record { receiver = freshOf 16 0 64; room = room };
+      calls = calls;
+      got = drawn (tps (deeds world calls));
+      sends = refl;
+      listens = record { same = refl; able = record { size = omega arith; walk = record { at = omega arith; phase = omega arith }; stage = omega arith } };
+      damaged = undamaged 16 0 65535 world refl calls;
+    }
+
+-- by demand 3: whatever calls are made of such a receiver, over both TPs until none, they hand out the two packets as they were offered
+pub both-ends : (cs : List (List Called)) → Hears (link .listener) (tpsIn (link .got)) cs
+    → (handedOut H.low (tpsIn (link .got)) cs ≡ (1, 0x11 ∷ 0x22 ∷ []) ∷ []) × (handedOut H.ordinary (tpsIn (link .got)) cs ≡ (4, 0x33 ∷ []) ∷ [])
+unfolding link done first second llep codeWord chosen word firstNumber header ep pieces part flatten
+both-ends cs hears =
+    let said = demand3-unchanged link (as-queue-is-roomy link (omega arith), refl) 0 cs hears in (
+      said .0 ∙ ap (λ (ds : List Deed). map asOffered (lowsOf ds (leb 0))) did,
+      said .1 ∙ ap (λ (ds : List Deed). map asOffered (ordinariesOf 65535 ds (wholeFrom 0 (tps ds)))) did,
+    )
 
 -- ---- with gaps in the middle
 
