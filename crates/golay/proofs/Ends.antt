@@ -1,17 +1,17 @@
 -- The end byte: its two code words, 00 and FF, are eight flips apart, so at most one lies within three.
 -- Assumes nothing.
-use mathlib.Core.Path.{_≡_, sym, ap, _∙_}
-use mathlib.Core.Bool.{Bool}
-use mathlib.Core.Option.{some}
+use mathlib.Core.Path.{_≡_, refl, sym, ap, _∙_}
+use mathlib.Core.Bool.{Bool, true, false, cond}
+use mathlib.Core.Option.{none, some}
 use Prim.Native.Nat.{ℕ, _+_, _≤_, _<_}
 use native.Mathlib.Nat.{lt-of-not-le}
 use native.Mathlib.Omega.{arith}
 use borrow.Author.Tests.{le-leb, lt-leb}
 use lib.Bits.{bitXor, xor-zero-r}
 use lib.Count.{ones, onesIn}
-use lib.Dec.{T, eqb, eqb→eq}
+use lib.Dec.{T, leb, eqb, eqb→eq}
 use Rattle.golay.specs.Golay.{byteDistance}
-use Rattle.golay.specs.Answers.{endOf, endByte}
+use Rattle.golay.specs.Answers.{endByte, endMeant, endOf}
 use Rattle.golay.specs.declared.End.{End}
 use Rattle.golay.specs.declared.End.the-variants.{Zeros, Ones, Neither}
 use Rattle.golay.proofs.Test.{below, passes}
@@ -30,19 +30,44 @@ module _ (b : ℕ) where
   unfolding endOf
   four h g = simp (lt-leb (onesIn 8 b) 3 h, lt-leb 5 (onesIn 8 b) g)
 
+  -- what is meant is the answer's byte
+  meant : endByte (endOf b) ≡ endMeant b
+  unfolding endOf endMeant
+  meant = go (leb (onesIn 8 b) 3) (leb 5 (onesIn 8 b))
+    where
+      go : (s t : Bool) → endByte (cond s Zeros (cond t Ones Neither)) ≡ cond s (some 0x00) (cond t (some 0xFF) none)
+      go true t = refl
+      go false true = refl
+      go false false = refl
+
+  -- the contract allows one answer
+  pub is-end : (r : End) → endByte r ≡ endMeant b → r ≡ endOf b
+  is-end r e = same r (endOf b) (e ∙ sym meant)
+    where
+      same : (r s : End) → endByte r ≡ endByte s → r ≡ s
+      same Zeros Zeros e = refl
+      same Zeros Ones e = absurd (let z : _≡_ {A = ℕ} 0 0xFF = cc in omega arith)
+      same Zeros Neither e = absurd (let z : _≡_ {A = ℕ} 0 1 = cc in omega arith)
+      same Ones Zeros e = absurd (let z : _≡_ {A = ℕ} 0 0xFF = cc in omega arith)
+      same Ones Ones e = refl
+      same Ones Neither e = absurd (let z : _≡_ {A = ℕ} 0 1 = cc in omega arith)
+      same Neither Zeros e = absurd (let z : _≡_ {A = ℕ} 0 1 = cc in omega arith)
+      same Neither Ones e = absurd (let z : _≡_ {A = ℕ} 0 1 = cc in omega arith)
+      same Neither Neither e = refl
+
 -- ---- the same of the code's count of a byte's ones
 module _ (b : ℕ) (byte : b < 256) where
   counted : ones b ≡ onesIn 8 b
   counted = ones-all 8 b byte
 
-  pub at-most-three : ones b ≤ 3 → Zeros ≡ endOf b
-  at-most-three h = sym (few b (rw counted at h))
+  pub at-most-three : ones b ≤ 3 → endByte Zeros ≡ endMeant b
+  at-most-three h = ap endByte (sym (few b (rw counted at h))) ∙ meant b
 
-  pub at-least-five : 5 ≤ ones b → Ones ≡ endOf b
-  at-least-five h = sym (many b (rw counted at h))
+  pub at-least-five : 5 ≤ ones b → endByte Ones ≡ endMeant b
+  at-least-five h = ap endByte (sym (many b (rw counted at h))) ∙ meant b
 
-  pub just-four : 3 < ones b → ones b < 5 → Neither ≡ endOf b
-  just-four h g = sym (four b (rw counted at h) (rw counted at g))
+  pub just-four : 3 < ones b → ones b < 5 → endByte Neither ≡ endMeant b
+  just-four h g = ap endByte (sym (four b (rw counted at h) (rw counted at g))) ∙ meant b
 
 -- ---- flips from 00 and from FF
 

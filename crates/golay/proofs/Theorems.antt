@@ -7,6 +7,7 @@ use Prim.Native.Nat.{ℕ, zero, suc, _/_, _^_, _≤_, _<_}
 use native.Mathlib.Nat.{mod-eq-of-lt, not-suc-le-zero, lt-of-not-le}
 use native.Mathlib.Omega.{arith}
 use lib.Bits.{bitXor, xor-zero-r}
+use lib.Count.{onesIn}
 use lib.Dec.{leb, lit<, lit≤}
 use borrow.Author.Tests.{leb-true, leb-false, lt-leb}
 use Rattle.golay.specs.Golay.{high, chosen, codeWord, weight, distance, syndrome}
@@ -31,6 +32,15 @@ pub true-count : (w : ℕ) (r : Decoded) → Decodes w r → Nearest w (count r)
 unfolding Decodes
 true-count w (Word n c) d = nearest w n c (d .0) (d .1) (omega arith)
 true-count w Beyond d = d
+
+-- the contract is false of an invented count: of any that is not the distance, and so of the number's half counted alone
+pub invented : (w n c : ℕ) → (c ≡ distance w (codeWord n) → ⊥) → Decodes w (Word n c) → ⊥
+unfolding Decodes
+invented w n c other d = other (sym (d .1))
+
+pub half-counted : Decodes 0x000007 (Word 0x000 0) → ⊥
+unfolding distance weight codeWord chosen onesIn
+half-counted = invented 0x000007 0x000 0 (λ e. omega arith)
 
 -- the table as A.3 fills it: at the syndrome of an error of at most three flips stands the number's half of that error
 pub a3 : (e x : ℕ) → e < 2 ^ 24 → weight e ≤ 3 → Corrects (syndrome e) x → x ≡ e / 4096

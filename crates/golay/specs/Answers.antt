@@ -19,16 +19,16 @@ Nearest w c =
     ((n : ℕ) → n < 4096 → c ≤ distance w (codeWord n))
     × ((n : ℕ) × (n < 4096) × (distance w (codeWord n) ≡ c))
 
--- the number and the count of flipped bits, 0 to 3, of the one code word within three flips;
--- if there is none, beyond repair: the true distance to the nearest code word is then 4
-unfoldable pub Decodes : ℕ → Decoded → Type 0
-Decodes w (Word n c) = (n < 4096) × (distance w (codeWord n) ≡ c) × (c ≤ 3)
-Decodes w Beyond = Nearest w 4
-
 -- document 01's count for each answer
 abbrev pub count : Decoded → ℕ
 count (Word n c) = c
 count Beyond = 4
+
+-- the number and the count of flipped bits, 0 to 3, of the one code word within three flips;
+-- if there is none, beyond repair: the count is then the true distance to the nearest code word
+unfoldable pub Decodes : ℕ → Decoded → Type 0
+Decodes w (Word n c) = (n < 4096) × (distance w (codeWord n) ≡ count (Word n c)) × (count (Word n c) ≤ 3)
+Decodes w Beyond = Nearest w (count Beyond)
 
 -- the same as a function, for the crates above: the number below k whose code word lies within three flips
 unfoldable pub readingBelow : ℕ → ℕ → Decoded
@@ -46,12 +46,16 @@ Corrects s x =
     ((e : ℕ) × (e < 2 ^ 24) × (syndrome e ≡ s) × (weight e ≤ 3) × (x ≡ e / 4096))
     ⊎ ((x ≡ 0xFFFF) × ((e : ℕ) × (e < 2 ^ 24) × (syndrome e ≡ s) × (weight e ≡ 4)))
 
--- an end byte with at most three ones means 00, with at least five means FF, and four ones means beyond repair
-unfoldable pub endOf : ℕ → End
-endOf b = cond (leb (onesIn 8 b) 3) Zeros (cond (leb 5 (onesIn 8 b)) Ones Neither)
-
--- the byte that each answer means; none beyond repair
+-- document 01's byte for each answer; none beyond repair
 abbrev pub endByte : End → Option ℕ
 endByte Zeros = some 0x00
 endByte Ones = some 0xFF
 endByte Neither = none
+
+-- an end byte with at most three ones means 00, with at least five means FF, and four ones means beyond repair
+unfoldable pub endMeant : ℕ → Option ℕ
+endMeant b = cond (leb (onesIn 8 b) 3) (some 0x00) (cond (leb 5 (onesIn 8 b)) (some 0xFF) none)
+
+-- the same as an answer, for the crates above
+unfoldable pub endOf : ℕ → End
+endOf b = cond (leb (onesIn 8 b) 3) Zeros (cond (leb 5 (onesIn 8 b)) Ones Neither)

@@ -2,7 +2,7 @@
 ghost use mathlib.Core.Path.{_≡_};
 ghost use lib.Dec.{eqb};
 ghost use Rattle.golay.specs.Golay.{chosen, checks, codeWord, distance, low, syndrome};
-ghost use Rattle.golay.specs.Answers.{Decodes, endOf};
+ghost use Rattle.golay.specs.Answers.{Decodes, endByte, endMeant};
 
 mod corrections;
 pub mod pair;
@@ -111,7 +111,7 @@ pub fn decode(w: u32) -> Decoded
 
 // What an end byte says.
 pub fn end_of(b: u8) -> End
-    ensures { λ r. ⌜ r ≡ endOf b ⌝ }
+    ensures { λ r. ⌜ endByte r ≡ endMeant b ⌝ }
 {
     let ones = u8::count_ones(b);
     if ones <= 3 {

@@ -2,6 +2,7 @@
 -- Assumes nothing.
 use mathlib.Core.Path.{sym, _∙_}
 use borrow.Author.Needs.{needs}
+use Rattle.golay.proofs.Ends.{is-end}
 use Rattle.receiver.proofs.low.ends.Statement.{statement}
 use Rattle.receiver.proofs.low.ends.Tie as tie
 
@@ -23,15 +24,15 @@ enum-told-3 c = search needs
 
 -- src/low.rt:34:1
 returns : tie.Need-returns
-returns c = simp (sym (c .before .before .end-of .ensures) ∙ c .enum-told .given .1)
+returns c = simp (sym (is-end _ _ (c .before .before .end-of .ensures)) ∙ c .enum-told .given .1)
 
 -- src/low.rt:34:1
 returns-2 : tie.Need-returns-2
-returns-2 c = simp (sym (c .before .before .end-of .ensures) ∙ c .enum-told2 .given .1)
+returns-2 c = simp (sym (is-end _ _ (c .before .before .end-of .ensures)) ∙ c .enum-told2 .given .1)
 
 -- src/low.rt:34:1
 returns-3 : tie.Need-returns-3
-returns-3 c = simp (sym (c .before .before .end-of .ensures) ∙ c .enum-told3 .given .1)
+returns-3 c = simp (sym (is-end _ _ (c .before .before .end-of .ensures)) ∙ c .enum-told3 .given .1)
 
 pub ends-spec : {M : Type 1} → statement M
 ends-spec =
