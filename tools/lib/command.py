@@ -2,6 +2,7 @@
 
 Status 0: all was done. 1: the input was bad, or could not be read, or the output not written. 2: asked wrongly."""
 import argparse
+import errno
 import io
 import os
 import sys
@@ -42,7 +43,7 @@ def number(least, most):
 
 
 class Output:
-    """Standard output, in blocks."""
+    """Standard output, in blocks. After a failure it is given up."""
 
     def __init__(self):
         self.file = None
@@ -53,14 +54,18 @@ class Output:
                 self.file = io.BufferedWriter(io.FileIO(1, "w", closefd=False), BLOCK)
             self.file.write(data)
         except OSError as error:
-            raise Stop(unwritten(error)) from None
+            self.give_up(error)
 
     def flush(self):
         try:
             if self.file is not None:
                 self.file.flush()
         except OSError as error:
-            raise Stop(unwritten(error)) from None
+            self.give_up(error)
+
+    def give_up(self, error):
+        self.file = None
+        raise Stop(unwritten(error)) from None
 
 
 def unwritten(error):
@@ -155,24 +160,32 @@ def tell(name, line):
         pass
 
 
-def run(name, main):
-    """Runs a tool and ends the process. main(output) gives the status, or nothing for 0."""
-    output = Output()
+def outcome(name, deed):
+    """The status of a deed; what goes wrong in it is told."""
     try:
-        status = main(output) or 0
+        return deed() or 0
     except Stop as stop:
-        status = failed(name, stop)
+        return failed(name, stop)
     except SystemExit as asked:  # of the words on the command line, --help among them
-        status = asked.code if isinstance(asked.code, int) else failed(name, asked.code)
+        return asked.code if isinstance(asked.code, int) else failed(name, asked.code)
     except KeyboardInterrupt:
-        status = 130
-    try:
-        output.flush()
-    except Stop as stop:
-        status = status or failed(name, stop)
-    sys.exit(status)
+        return 130
+    except OSError as error:  # of a tool that prints
+        if error.errno not in (errno.EPIPE, errno.ENOSPC):
+            raise
+        return failed(name, unwritten(error))
 
 
 def failed(name, line):
     tell(name, line)
     return 1
+
+
+def run(name, main):
+    """Runs a tool and ends the process. main(output) gives the status, or nothing for 0."""
+    output = Output()
+    status = outcome(name, lambda: main(output))
+    status = outcome(name, output.flush) or status
+    if status == 0 and sys.stdout:
+        status = outcome(name, sys.stdout.flush)
+    os._exit(status)  # or the interpreter would flush once more, and tell the same again

@@ -35,6 +35,10 @@ class EveryTool(trial.Case):
                 self.assertGreater(len(self.works(done)), 100)
                 self.assertEqual(done.said, "")
 
+    def test_help_of_wrong(self):
+        self.assertGreater(len(self.works(trial.tool("wrong", "--help", cwd="/"))), 100)
+        self.fails(trial.tool("wrong", "no_such_crate", cwd=trial.ROOT), 2, "no edits in crates/no_such_crate/wrong/")
+
     def test_wrong_words(self):
         for name in [words[0] for words, _, _ in STREAMS.values()] + OTHERS + ["../demo/run"]:
             with self.subTest(name):
