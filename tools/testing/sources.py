@@ -3,8 +3,6 @@ import os
 
 import trial
 
-CORRECTIONS = ("crates", "golay", "src", "corrections.rt")
-
 
 class Cited(trial.Case):
     def cited(self, page):
@@ -27,11 +25,16 @@ class Cited(trial.Case):
 
 
 class Corrections(trial.Case):
-    def test_the_table_is_what_the_tool_makes(self):
+    def test_the_crate_has_what_the_tool_makes(self):
         room = self.repository("corrections")
-        trial.write("old", room, *CORRECTIONS)
+        golay = os.path.join(room, "crates", "golay")
+        for folder, _, _ in os.walk(os.path.join(trial.ROOT, "crates", "golay")):
+            os.makedirs(os.path.join(golay, os.path.relpath(folder, os.path.join(trial.ROOT, "crates", "golay"))))
         self.works(trial.tool(os.path.join(room, "tools", "corrections")))
-        self.assertEqual(trial.text_of(room, *CORRECTIONS), trial.text_of(trial.ROOT, *CORRECTIONS))
+        made = [os.path.relpath(os.path.join(folder, name), room) for folder, _, names in os.walk(golay) for name in names]
+        self.assertTrue(made)
+        for name in made:
+            self.assertEqual(trial.text_of(room, name), trial.text_of(trial.ROOT, name), name)
 
     def test_no_place_for_it(self):
         room = self.repository("corrections")
