@@ -28,7 +28,7 @@ use Rattle.receiver.specs.Low.{wire}
 use Rattle.receiver.specs.Lows.{lowsOf}
 use Rattle.receiver.specs.Pull.{Pulled, meet}
 use Rattle.receiver.specs.State.{frameOf, todoOf, heldOf, keeps, pullOf, from, Fine, Settled, Staged, Able}
-use Rattle.receiver.specs.Call.{freshOf, Said, Gave, Gives, saidOf, says, leave, holds, unchanged, gone, plain, walkTo, startly, dueOf, lowly, begunly, begun, freshly, staged, callOf, stepped}
+use Rattle.receiver.specs.Call.{freshOf, Said, Gave, Gives, saidOf, says, leave, holds, unchanged, gone, ordinaryBy, walkTo, startCall, dueCall, lowCall, payloadCall, wordCall, firstCall, stageCall, callOf, stepped}
 use Rattle.receiver.proofs.Walking.{place, low-in}
 use Rattle.downlink.specs.Damage.{Bytes}
 use Rattle.downlink.proofs.Rests.{phaseOf, keptOf, FrameOk, need, HeldOk, frame-back, no-todo, MetOk, held-back, keeps-back, fine, settled}
@@ -81,7 +81,7 @@ module _ (r : Receiver) (tp m : List ℕ) (able : Able r) (small : Bytes tp) whe
         }
 
     -- ordinary bytes
-    plain-by : (o : Option (Finding wire)) (p : Pulled wire) → PulledOk (length m) (r .size) o p → Carried tp (plain o r p)
+    plain-by : (o : Option (Finding wire)) (p : Pulled wire) → PulledOk (length m) (r .size) o p → Carried tp (ordinaryBy o r p)
     plain-by none p (e, ok, h) =
         stands-for S.Fresh 0 (phaseOf (p .frame)) (p .frame) (p .todo) (p .held) (p .room) F.Nothing (says F.Nothing none)
         (frame-back (p .frame) ok) (no-todo (p .frame) ∙ sym e) (held-back (length m) _ (p .held) (p .room) h) refl
@@ -96,7 +96,7 @@ module _ (r : Receiver) (tp m : List ℕ) (able : Able r) (small : Bytes tp) whe
         (rests .frame) (rests .todo) (rests .kept) (ap (λ (d′ : List ℕ). record { find = F.Ordinary c (length d); number = none; bytes = d′ }) e) q (rests .sound) (omega arith)
 
     start-by : (at : ℕ) (t : Start wire) → MetOk (length m) (t .frame) (meet wire (length m) (heldOf (r .walk .kept) m) m (t .told))
-        → at + t .past ≤ length tp → Carried tp (startly r at t tp m)
+        → at + t .past ≤ length tp → Carried tp (startCall r at t tp m)
     start-by at t ok p =
         let f = from (length m) t (walkTo r at) tp m in
         plain-by (f .find) f
@@ -116,15 +116,15 @@ module _ (r : Receiver) (tp m : List ℕ) (able : Able r) (small : Bytes tp) whe
       begins : FrameOk (frameOf (r .walk .phase)) × HeldOk (length m) (need (frameOf (r .walk .phase))) (heldOf (r .walk .kept) m) m
       begins = phase-ok (length m) (r .walk .phase) (r .walk .kept) m refl still (subst⁻¹ (λ (n : ℕ). Fine n (r .walk .phase) (r .walk .kept)) full (able .walk .phase))
 
-      due-by : (o at : ℕ) → at ≤ length tp → Carried tp (dueOf r o at tp m)
-      unfolding dueOf
+      due-by : (o at : ℕ) → at ≤ length tp → Carried tp (dueCall r o at tp m)
+      unfolding dueCall
       due-by o at p =
           let f : Frame wire = frameOf (r .walk .phase) in
           let t = outset-ok (length m) (heldOf (r .walk .kept) m) m refl f (begins .0) (begins .1) o (at - 4) (drop at tp) in
           start-by at (outset wire f o (at - 4) (drop at tp)) (t .0) (omega (arith, t .1, length-drop at tp))
 
       -- a find of the low-latency part
-      given : (f : Find) (more : Bool) (at o : ℕ) → o < 2048 → 4 ≤ at → at ≤ length tp → Carried tp (lowly (L.Gives f more at) r o tp m)
+      given : (f : Find) (more : Bool) (at o : ℕ) → o < 2048 → 4 ≤ at → at ≤ length tp → Carried tp (lowCall (L.Gives f more at) r o tp m)
       unfolding stepped
       given f more at o p q z = record {
         step = record {
@@ -139,31 +139,31 @@ module _ (r : Receiver) (tp m : List ℕ) (able : Able r) (small : Bytes tp) whe
           go true = (p, q, still)
           go false = (p, q, still)
 
-      low-by : (l : Lows) (o : ℕ) → o < 2048 → 4 ≤ place l → place l ≤ length tp → Carried tp (lowly l r o tp m)
+      low-by : (l : Lows) (o : ℕ) → o < 2048 → 4 ≤ place l → place l ≤ length tp → Carried tp (lowCall l r o tp m)
       low-by (L.Broken at) o p q z =
           let t = dropping (length m) (heldOf (r .walk .kept) m) m refl 11 (drop at tp) in
           start-by at (dropped wire 11 (drop at tp)) (t .0) (omega (arith, t .1, length-drop at tp))
       low-by (L.End at) o p q z = due-by o at z
       low-by (L.Gives f more at) o p q z = given f more at o p q z
 
-      fresh-by : Carried tp (freshly r tp m)
-      unfolding freshly
+      fresh-by : Carried tp (firstCall r tp m)
+      unfolding firstCall
       fresh-by = go (eqb (streamOf (getD tp 0 0)) (r .stream)) (eqb (versionOf (getD tp 0 0)) 0) (tpNumberIn (number 0 (take 3 (drop 1 tp))))
         where
-          worded : (w : Option ℕ) → Carried tp (begun w r tp m)
+          worded : (w : Option ℕ) → Carried tp (wordCall w r tp m)
           worded none = dropping-it 9
           worded (some w) = go (leb 2048 w)
             where
-              go : (b : Bool) → Carried tp (begunly b r (w % 2048) tp m)
+              go : (b : Bool) → Carried tp (payloadCall b r (w % 2048) tp m)
               go true = let b = low-in true tp 4 (lowsOf tp 4) (omega (arith, able .size)) refl in low-by (lowsOf tp 4) (w % 2048) (omega arith) (b .0) (b .1)
               go false = due-by (w % 2048) 4 (omega (arith, able .size))
 
-          go : (a b : Bool) (w : Option ℕ) → Carried tp (cond a (cond b (begun w r tp m) (gone r 7 m)) (unchanged r (F.Notice 8) 8 m))
+          go : (a b : Bool) (w : Option ℕ) → Carried tp (cond a (cond b (wordCall w r tp m) (gone r 7 m)) (unchanged r (F.Notice 8) 8 m))
           go true true w = worded w
           go true false w = dropping-it 7
           go false b w = as-it-is (F.Notice 8) (says (F.Notice 8) (some 8)) refl
 
-    staged-by : (g : Stage) → Staged g (r .walk) → Carried tp (staged g r tp m)
+    staged-by : (g : Stage) → Staged g (r .walk) → Carried tp (stageCall g r tp m)
     unfolding pullOf
     staged-by S.Fresh t = fresh-by t
     staged-by (S.Low o) t =
@@ -184,7 +184,7 @@ module _ (r : Receiver) (tp m : List ℕ) (able : Able r) (small : Bytes tp) whe
   carried = go (eqb (length m) (r .limit)) (eqb (length tp) (r .size)) refl refl
     where
       go : (a b : Bool) → eqb (length m) (r .limit) ≡ a → eqb (length tp) (r .size) ≡ b
-          → Carried tp (cond a (cond b (staged (r .stage) r tp m) (unchanged r (F.Notice 6) 6 m)) (unchanged r F.Refused 1 m))
+          → Carried tp (cond a (cond b (stageCall (r .stage) r tp m) (unchanged r (F.Notice 6) 6 m)) (unchanged r F.Refused 1 m))
       go true true e f = staged-by (eqb-true (length m) (r .limit) e) (eqb-true (length tp) (r .size) f) (r .stage) (able .stage)
       go true false e f = as-it-is (F.Notice 6) (says (F.Notice 6) (some 6)) refl
       go false b e f = as-it-is F.Refused (says F.Refused (some 1)) refl

@@ -222,8 +222,7 @@ module _ (cap : ℕ) where
   snoc-bytes (x ∷ hs) b h p (suc i) = snoc-bytes hs b (λ j. h (suc j)) p i
 
   pub lose-ok : (f : Frame wire) (n : ℕ) (s : Held wire) (m : List ℕ) → FrameOk f → length m ≡ cap → MetOk f (meet wire cap s m (lose n ∷ []))
-  lose-ok f zero s m ok l = (ok, tt, l)
-  lose-ok f (suc n) s m ok l = (tt, still f free m ok tt, l)
+  lose-ok f n s m ok l = (tt, still f free m ok tt, l)
 
   whole-ok : (o : Option Header) (s : Held wire) (m : List ℕ) → HeldOk 0 s m → length m ≡ cap → MetOk (whole wire o .0) (meet wire cap s m (whole wire o .1))
   whole-ok none s m ok l = lose-ok lost 12 s m tt l
