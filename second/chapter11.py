@@ -81,7 +81,8 @@ def not_composed(rng, size):
         lambda: changed(good, 0, b"\xEB\x25"), lambda: changed(good, 0, b"\x24"), lambda: changed(good, 1, b"\xEA"),
         lambda: changed(good, 4, little(len(good) + 1, 4)), lambda: changed(good, 4, little(len(good) - 1, 4)),
         lambda: changed(good, 6, b"\1"), lambda: changed(good, 7, b"\1"), lambda: good + b"\0",
-        lambda: good[:22] + bytes([good[22] ^ 1]) + good[23:], lambda: good[:23] + bytes([good[23] ^ 0x80]) + good[24:],
+        lambda: good[:22] + bytes([good[22] ^ 1]) + good[23:],
+        lambda: good[:23] + bytes([good[23] ^ 0x80]) + good[24:],
         lambda: good[:12] + bytes([good[12] ^ 0x10]) + good[13:],
         lambda: changed(good, 8, little(len(good) - used + 1, 4)), lambda: changed(good, 8, b"\xFF\xFF\xFF\xFF"),
         lambda: changed(good, 8, little(2 ** 32 - used, 4)), lambda: changed(good, 11, b"\x80"),
@@ -108,7 +109,7 @@ def to_reassemble(rng, size):
     return rng.choice((
         lambda: (sp, whole), lambda: (flipped(rng, sp, 3), whole),
         lambda: (packer.golay(rng.randrange(0x1000) & 0xFF0 | parts.channel >> 12) + sp[3:], whole),
-        lambda: (sp[:12] + b"not read or checked"[:12] + sp[24:], whole[:12] + b"not read or checked"[:12] + whole[24:]),
+        lambda: (sp[:12] + b"unread bytes" + sp[24:], whole[:12] + b"unread bytes" + whole[24:]),
         lambda: any_trailer(rng, parts),
     ))()
 
@@ -128,8 +129,8 @@ def not_reassembled(rng, size):
     sp = source_packet(parts, b"")
     trailer = len(parts.secondary) + len(parts.checksum)
     return rng.choice((
-        lambda: sp[:23], lambda: sp[:rng.randrange(24)], lambda: b"", lambda: flipped(rng, sp, 4), lambda: flipped(rng, sp, 4, 12),
-        lambda: sp[:-1], lambda: sp + b"\0",
+        lambda: sp[:23], lambda: sp[:rng.randrange(24)], lambda: b"", lambda: sp[:-1], lambda: sp + b"\0",
+        lambda: flipped(rng, sp, 4), lambda: flipped(rng, sp, 4, 12),
         lambda: protected(parts.channel, trailer + 1, size) + sp[12:],
         lambda: protected(parts.channel, trailer, size + 1) + sp[12:],
         lambda: protected(parts.channel, trailer, size ^ 0x1000) + sp[12:],
