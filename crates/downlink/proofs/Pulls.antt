@@ -125,8 +125,8 @@ module _ (cap : ℕ) where
       outset-ok offset gone bs = go (eqb offset 2047) (leb (gone + length bs) offset) (ltb offset gone) refl
         where
           go : (a b c : Bool) → leb (gone + length bs) offset ≡ b
-              → StartOk (cond a (start wire f (length bs) bs) (cond b (dropped wire 10 bs) (cond c (dropped wire 10 bs) (start wire f (offset - gone) bs)))) bs
+              → StartOk (cond a (start wire f (length bs) bs) (cond b (dropped wire 10 bs) (cond c (dropped wire 21 bs) (start wire f (offset - gone) bs)))) bs
           go true b c e = set-out-ok (phase wire f) (length bs) bs (omega arith)
           go false true c e = dropping 10 bs
-          go false false true e = dropping 10 bs
+          go false false true e = dropping 21 bs
           go false false false e = set-out-ok (phase wire f) (offset - gone) bs (omega (arith, leb-false (gone + length bs) offset e))
