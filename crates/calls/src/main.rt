@@ -1,3 +1,4 @@
+// Only tests need this crate.
 // Makes calls on one sender and one receiver, as a list on standard input tells, and prints a line for each: second/CALLS.md.
 ghost use lib.ListN.{length};
 ghost use Prim.Native.Nat.{_≤_, _<_};

@@ -13,7 +13,7 @@ use Rattle.queue.specs.Ring.{around, held, longer, written, wrap, off}
 use Rattle.sender.specs.Answers.{lent}
 use Rattle.sender.specs.Offering.{later, pieces, spBytes, known, wantOrdinary, wantLow, ordinaryOffered, lowOffered}
 use Rattle.sender.specs.Drawing.{headAt, sizeIn, contentIn, lowIn, lowAt, overwritten, next, leave, part, fill, lacking, stream, owedAfter, span, under, offset, drawWith, drawOf, drawBy, drew}
-use Rattle.examples.proofs.Sixth.{example-6}
+use Rattle.examples.proofs.Sixth.{example-6, example-6-listed}
 use Rattle.examples.specs.Examples.{Hold, done, _and_, examples}
 
 -- 00000F is four flips from the code word of 0, so no code word is nearer
@@ -35,5 +35,6 @@ examples-hold =
     and refl
     and refl
     and example-6
+    and example-6-listed
     and refl
     and done

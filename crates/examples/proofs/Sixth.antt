@@ -1,5 +1,5 @@
 -- Document 01's example 6, the receiver's half: the two TPs, read by the definitions, give low 1 with data 11 22, then
--- ordinary 4 with data 33. Each word is read once, by its distance 0 from a code word. Assumes nothing.
+-- ordinary 4 with data 33, and are listed so. Each word is read once, by its distance 0 from a code word. Assumes nothing.
 use mathlib.Core.Path.{ap, refl, _∙_, _≡_}
 use mathlib.Core.Option.{Option, some}
 use mathlib.Core.List.{[], _∷_}
@@ -16,7 +16,9 @@ use Rattle.receiver.specs.Join.{low, ordinary}
 use Rattle.receiver.specs.Kind.{kindOf, pieceOf}
 use Rattle.receiver.specs.Low.{llep, lowPart, sized, walk}
 use Rattle.receiver.specs.Tp.{heard}
-use Rattle.examples.specs.Examples.{sixth, read}
+use Rattle.block.specs.Decimal.{decimal}
+use Rattle.listing.specs.Lines.{lineWith}
+use Rattle.examples.specs.Examples.{sixth, read, listing, sixthListing}
 
 pub first-word : tpNumberIn 0x809958 ≡ some 0x809
 unfolding tpNumberIn Decodes codeWord distance weight chosen onesIn
@@ -58,3 +60,8 @@ fill-header =
 pub example-6 : read sixth ≡ low 1 (0x11 ∷ 0x22 ∷ []) ∷ ordinary 4 (0x33 ∷ []) ∷ []
 unfolding heard lowPart walk llep sized headerOf endOf kindOf sortOf pieceOf outset onesIn
 example-6 = simp (first-word, low-header, second-word, cut-header, fill-header)
+
+-- and its listing
+pub example-6-listed : listing sixth ≡ sixthListing
+unfolding heard lowPart walk llep sized headerOf endOf kindOf sortOf pieceOf outset onesIn lineWith decimal
+example-6-listed = simp (first-word, low-header, second-word, cut-header, fill-header)

@@ -1,7 +1,7 @@
 -- Document 01's starred examples, as a single list: each stands in the document's order, with its own numbers.
 -- Assumes nothing.
 use mathlib.Core.Path.{_≡_}
-use mathlib.Core.List.{List, [], _∷_}
+use mathlib.Core.List.{List, [], _∷_, _++_}
 use Prim.Native.Nat.{ℕ}
 use lib.ListN.{replicate}
 use Rattle.golay.specs.Golay.{codeWord}
@@ -18,6 +18,7 @@ use Rattle.receiver.specs.Join as J
 use Rattle.receiver.specs.Join.{Finding, free}
 use Rattle.receiver.specs.Low.{wire}
 use Rattle.receiver.specs.Tp.{Input, tpIn, listingAll}
+use Rattle.listing.specs.Recordings.{listed}
 
 -- a sender of TP length 16, stream 0, F of 65,535, with two queues of 32 bytes
 abbrev pub opened : World
@@ -40,8 +41,12 @@ inputs (b ∷ bs) = tpIn b ∷ inputs bs
 abbrev pub read : List (List ℕ) → List (Finding wire)
 read bs = listingAll (record { size = 16; stream = 0; room = 1 }) (record { frame = lost; held = free }) (inputs bs) .0
 
+-- the listing of a recording of TP length 16, stream 0, by a program whose room has 32,768 bytes
+abbrev pub listing : List (List ℕ) → List ℕ
+listing bs = listed (record { size = 16; stream = 0; room = 32768 }) (inputs bs)
+
 -- what an example can say: a number's code word; what a word is read as; what an end byte means; the EPs of an SP with fragment
--- size F; the TPs that calls give; the finds that TPs give
+-- size F; the TPs that calls give; the finds that TPs give; their listing
 pub data Example : Type 0 where
   encodes : ℕ → ℕ → Example
   decodes : ℕ → Decoded → Example
@@ -49,6 +54,7 @@ pub data Example : Type 0 where
   cuts : ℕ → ℕ → List ℕ → List (List ℕ) → Example
   sends : List Call → List (List ℕ) → Example
   reads : List (List ℕ) → List (Finding wire) → Example
+  lists : List (List ℕ) → List ℕ → Example
 
 abbrev pub Holds : Example → Type 0
 Holds (encodes n w) = codeWord n ≡ w
@@ -57,6 +63,7 @@ Holds (ends b r) = endOf b ≡ r
 Holds (cuts F c d es) = pieces F c d ≡ es
 Holds (sends cs bs) = bytesOf (tps (deeds opened cs)) ≡ bs
 Holds (reads bs fs) = read bs ≡ fs
+Holds (lists bs t) = listing bs ≡ t
 
 -- all of a list hold
 infixr 5 _and_
@@ -74,6 +81,13 @@ secondTp = 0x00 ∷ 0x00 ∷ 0x4A ∷ 0x97 ∷ 0x00 ∷ 0x18 ∷ 0xEB ∷ 0x33 �
 abbrev pub sixth : List (List ℕ)
 sixth = firstTp ∷ secondTp ∷ []
 
+-- "tp what content bytes", "1 low 1 2", "2 ordinary 4 1", each with its line end
+abbrev pub sixthListing : List ℕ
+sixthListing =
+    (0x74 ∷ 0x70 ∷ 0x20 ∷ 0x77 ∷ 0x68 ∷ 0x61 ∷ 0x74 ∷ 0x20 ∷ 0x63 ∷ 0x6F ∷ 0x6E ∷ 0x74 ∷ 0x65 ∷ 0x6E ∷ 0x74 ∷ 0x20 ∷ 0x62 ∷ 0x79 ∷ 0x74 ∷ 0x65 ∷ 0x73 ∷ 0x0A ∷ [])
+    ++ (0x31 ∷ 0x20 ∷ 0x6C ∷ 0x6F ∷ 0x77 ∷ 0x20 ∷ 0x31 ∷ 0x20 ∷ 0x32 ∷ 0x0A ∷ [])
+    ++ (0x32 ∷ 0x20 ∷ 0x6F ∷ 0x72 ∷ 0x64 ∷ 0x69 ∷ 0x6E ∷ 0x61 ∷ 0x72 ∷ 0x79 ∷ 0x20 ∷ 0x34 ∷ 0x20 ∷ 0x31 ∷ 0x0A ∷ [])
+
 abbrev pub examples : List Example
 examples =
     encodes 0x000 0x000000
@@ -90,6 +104,7 @@ examples =
     ((0x05 ∷ 0x0E ∷ 0xFE ∷ 0x00 ∷ 0x29 ∷ 0x3E ∷ 0x11 ∷ 0x22 ∷ []) ∷ (0x07 ∷ 0x08 ∷ 0x33 ∷ 0x00 ∷ 0x18 ∷ 0xEB ∷ 0x33 ∷ []) ∷ [])
     ∷ sends (low 1 (0x11 ∷ 0x22 ∷ []) ∷ ordinary 4 (0x33 ∷ []) ∷ drawn ∷ drawn ∷ []) sixth
     ∷ reads sixth (J.low 1 (0x11 ∷ 0x22 ∷ []) ∷ J.ordinary 4 (0x33 ∷ []) ∷ [])
+    ∷ lists sixth sixthListing
     ∷ sends (ordinary 1 (0x11 ∷ 0x22 ∷ []) ∷ drawn ∷ drawn ∷ [])
     ((0x00 ∷ 0x00 ∷ 0x00 ∷ 0x00 ∷ 0x04 ∷ 0x0D ∷ 0x99 ∷ 0x00 ∷ 0x29 ∷ 0x3E ∷ 0x11 ∷ 0x22 ∷ 0x00 ∷ 0x00 ∷ 0x00 ∷ 0x00 ∷ [])
     ∷ (0x00 ∷ 0x00 ∷ 0x29 ∷ 0x3E ∷ 0x00 ∷ 0x00 ∷ 0x00 ∷ 0x00 ∷ 0x00 ∷ 0x00 ∷ 0x4A ∷ 0x97 ∷ 0xAA ∷ 0xAA ∷ 0xAA ∷ 0xAA ∷ [])

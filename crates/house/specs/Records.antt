@@ -43,7 +43,7 @@ lengthOf Gap = 0
 
 -- "mark C7 07, kind byte, content byte, 4-byte length (most significant first)"
 abbrev pub headOf : Record → List ℕ
-headOf r = 199 ∷ 7 ∷ kindOf r ∷ contentOf r ∷ digits 4 (lengthOf r)
+headOf r = 0xC7 ∷ 0x07 ∷ kindOf r ∷ contentOf r ∷ digits 4 (lengthOf r)
 
 -- "House record: .. data."
 abbrev pub recordBytes : Record → List ℕ → List ℕ
@@ -81,9 +81,9 @@ ruled p k c n =
     (Bad Content))
     (Bad Kind)
 
--- what the first eight bytes say at a place; 50951 is the mark C7 07 as a number
+-- what the first eight bytes say at a place
 unfoldable pub judgedOf : Place → List ℕ → Judged
 judgedOf p h =
-    cond (eqb (number 0 (getD h 0 0 ∷ getD h 1 0 ∷ [])) 50951)
+    cond (eqb (number 0 (getD h 0 0 ∷ getD h 1 0 ∷ [])) 0xC707)
     (ruled p (getD h 2 0) (getD h 3 0) (number 0 (getD h 4 0 ∷ getD h 5 0 ∷ getD h 6 0 ∷ getD h 7 0 ∷ [])))
     (Bad Mark)

@@ -7,21 +7,23 @@ use Rattle.receiver.specs.declared.Find.the-variants.{Nothing, Refused, Notice,
 
 -- "tp what content bytes" and a line end, in ASCII
 abbrev pub headerLine : List ℕ
-headerLine = 116 ∷ 112 ∷ 32 ∷ 119 ∷ 104 ∷ 97 ∷ 116 ∷ 32 ∷ 99 ∷ 111 ∷ 110 ∷ 116 ∷ 101 ∷ 110 ∷ 116 ∷ 32 ∷ 98 ∷ 121 ∷ 116 ∷ 101 ∷ 115 ∷ 10 ∷ []
+headerLine = 0x74 ∷ 0x70 ∷ 0x20 ∷ 0x77 ∷ 0x68 ∷ 0x61 ∷ 0x74 ∷ 0x20 ∷ 0x63 ∷ 0x6F ∷ 0x6E ∷ 0x74 ∷ 0x65 ∷ 0x6E ∷ 0x74 ∷ 0x20 ∷ 0x62 ∷ 0x79 ∷ 0x74 ∷ 0x65 ∷ 0x73 ∷ 0x0A ∷ []
 
--- " low ", " ordinary ", " notice "
+-- " low "
 abbrev pub lowWord : List ℕ
-lowWord = 32 ∷ 108 ∷ 111 ∷ 119 ∷ 32 ∷ []
+lowWord = 0x20 ∷ 0x6C ∷ 0x6F ∷ 0x77 ∷ 0x20 ∷ []
 
+-- " ordinary "
 abbrev pub ordinaryWord : List ℕ
-ordinaryWord = 32 ∷ 111 ∷ 114 ∷ 100 ∷ 105 ∷ 110 ∷ 97 ∷ 114 ∷ 121 ∷ 32 ∷ []
+ordinaryWord = 0x20 ∷ 0x6F ∷ 0x72 ∷ 0x64 ∷ 0x69 ∷ 0x6E ∷ 0x61 ∷ 0x72 ∷ 0x79 ∷ 0x20 ∷ []
 
+-- " notice "
 abbrev pub noticeWord : List ℕ
-noticeWord = 32 ∷ 110 ∷ 111 ∷ 116 ∷ 105 ∷ 99 ∷ 101 ∷ 32 ∷ []
+noticeWord = 0x20 ∷ 0x6E ∷ 0x6F ∷ 0x74 ∷ 0x69 ∷ 0x63 ∷ 0x65 ∷ 0x20 ∷ []
 
--- "number .. of the TP that gave it .., sort .., content or notice number, data bytes"
+-- "number .. of the TP that gave it .., sort .., content or notice number, data bytes", with a space (20) between and a line end (0A)
 unfoldable pub lineWith : ℕ → List ℕ → ℕ → ℕ → List ℕ
-lineWith tp word c n = decimal tp ++ word ++ decimal c ++ (32 ∷ []) ++ decimal n ++ (10 ∷ [])
+lineWith tp word c n = decimal tp ++ word ++ decimal c ++ (0x20 ∷ []) ++ decimal n ++ (0x0A ∷ [])
 
 -- "(low, ordinary, notice)"; "(0 for a notice)"; a refusal is number 1; nothing has no line
 abbrev pub lineOf : ℕ → Find → List ℕ

@@ -1,3 +1,4 @@
+// Only tests need this crate.
 // The two ends with the longest packets, which the programs' buffers of 32,768 bytes don't hold: second/longest.c.
 // The file stdout beside src/ is what the second program prints.
 mod receiving;

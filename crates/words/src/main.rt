@@ -1,3 +1,4 @@
+// Only tests need this crate.
 // Runs the Golay code over sections of words from standard input, and prints a line for each: second/words.h.
 // The file stdout beside src/ is what the second program prints.
 ghost use Prim.Native.Nat.{_<_};

@@ -1,0 +1,31 @@
+-- What a recording lists (document 01, 'Listing'), as one definition over what the receiver's own definition finds in its records.
+-- Assumes nothing.
+use Prim.Native.Nat.{ℕ, suc}
+use mathlib.Core.List.{List, [], _∷_, _++_}
+use lib.ListN.{length}
+use Rattle.receiver.specs.Frame.{lost}
+use Rattle.receiver.specs.Join.{Finding, notice, low, ordinary, free}
+use Rattle.receiver.specs.Low.{wire}
+use Rattle.receiver.specs.Tp.{Setting, Stand, Input, tpIn, gapTold, listingOf}
+use Rattle.listing.specs.Lines.{headerLine, lowWord, ordinaryWord, noticeWord, lineWith}
+
+-- "sort (low, ordinary, notice), content or notice number, data bytes (0 for a notice)"
+abbrev pub findLine : ℕ → Finding wire → List ℕ
+findLine tp (notice k) = lineWith tp noticeWord k 0
+findLine tp (low c d) = lineWith tp lowWord c (length d)
+findLine tp (ordinary c d) = lineWith tp ordinaryWord c (length d)
+
+-- "a line for each find" of the TP with this number
+abbrev pub tpLines : ℕ → List (Finding wire) → List ℕ
+tpLines tp [] = []
+tpLines tp (f ∷ fs) = findLine tp f ++ tpLines tp fs
+
+-- "number, from 1, of the TP that gave it (refused TPs count, gaps don't)": of the records behind n TPs
+abbrev pub linesBehind : Setting → ℕ → Stand → List Input → List ℕ
+linesBehind s n t [] = []
+linesBehind s n t (tpIn b ∷ xs) = tpLines (suc n) (listingOf s t (tpIn b) .0) ++ linesBehind s (suc n) (listingOf s t (tpIn b) .1) xs
+linesBehind s n t (gapTold ∷ xs) = linesBehind s n (listingOf s t gapTold .1) xs
+
+-- THE LISTING of a recording with these settings and records: "header line, then a line for each find"
+abbrev pub listed : Setting → List Input → List ℕ
+listed s xs = headerLine ++ linesBehind s 0 (record { frame = lost; held = free }) xs
