@@ -49,7 +49,7 @@ fn finds(first: Run, tp: &[u8], room: &mut [u8], out: &mut [u8]) -> Run
         receiver = step.receiver;
         at = wrote.at;
         let find = step.find;
-        if !listing::goes_on(find) {
+        if !receiver::lasts(find) {
             return Run {
                 receiver,
                 at,
