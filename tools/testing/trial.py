@@ -4,6 +4,7 @@ import contextlib
 import os
 import platform
 import shutil
+import signal
 import subprocess
 import sys
 import tempfile
@@ -12,18 +13,18 @@ import unittest
 
 ROOT = os.path.realpath(os.path.join(os.path.dirname(__file__), "..", ".."))
 LIMIT = 120  # seconds for one run
-LIVE_LIMIT = 30  # and for one between two pipes
+LIVE_LIMIT = 20  # and for one between two pipes
 
 Run = collections.namedtuple("Run", "status out said")
 TOOLS = os.path.join(ROOT, "tools")
 
 
 def run(words, data=b"", **given):
-    if "stdin" not in given:
-        given["input"] = data
-    given.setdefault("stdout", subprocess.PIPE)
-    done = subprocess.run(words, stderr=subprocess.PIPE, timeout=LIMIT, check=False, **given)
-    return Run(done.returncode, done.stdout, done.stderr.decode(errors="replace"))
+    data = None if "stdin" in given else data
+    given = {"stdin": subprocess.PIPE, "stdout": subprocess.PIPE, **given}
+    with subprocess.Popen(words, stderr=subprocess.PIPE, start_new_session=True, **given) as running, ends_in(LIMIT, running):
+        out, said = running.communicate(data)
+    return Run(running.returncode, out, said.decode(errors="replace"))
 
 
 def words_of(name, *words):
@@ -75,13 +76,14 @@ def stand_in_kit(room, programs, rt=""):
 
 def live(words):
     """A tool between two pipes."""
-    return subprocess.Popen(words, stdin=subprocess.PIPE, stdout=subprocess.PIPE, stderr=subprocess.DEVNULL, bufsize=0)
+    return subprocess.Popen(words, stdin=subprocess.PIPE, stdout=subprocess.PIPE, stderr=subprocess.DEVNULL, bufsize=0,
+                            start_new_session=True)
 
 
 @contextlib.contextmanager
 def ends_in(seconds, running):
-    """A process that would wait for ever is ended, so that its reader sees the end."""
-    clock = threading.Timer(seconds, running.kill)
+    """Processes that would wait for ever are ended, with all that they started, so that their reader sees the end."""
+    clock = threading.Timer(seconds, os.killpg, (running.pid, signal.SIGKILL))
     clock.start()
     try:
         yield
