@@ -30,8 +30,8 @@ returns c = record { able = c .before .before .loop .inv .0; from = omega arith;
 step-requires : tie.Need-step-requires Inv-loop μ-loop
 step-requires c κs = c .before .before .before .before .loop .inv .0
 
-goes-on-requires : tie.Need-goes-on-requires Inv-loop μ-loop
-goes-on-requires c κs = search needs
+lasts-requires : tie.Need-lasts-requires Inv-loop μ-loop
+lasts-requires c κs = search needs
 
 add-t18 : tie.Need-add-t18 Inv-loop μ-loop
 add-t18 c = omega (arith, c .before .before .before .before .before .before .before .before .before .before .before .before .before .before .before .before .before .before .pre .1)
@@ -77,7 +77,7 @@ finds-spec =
     same-length-2
     returns
     step-requires
-    goes-on-requires
+    lasts-requires
     add-t18
     add-t20
     same-length-3
