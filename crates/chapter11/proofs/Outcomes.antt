@@ -1,9 +1,9 @@
 -- What a call's answer says of its outcome, for the crates above. Assumes nothing.
 use mathlib.Core.Path.{_≡_, refl, sym, ap, _∙_}
 use mathlib.Core.List.{List, _++_}
-use Prim.Native.Nat.{ℕ}
+use Prim.Native.Nat.{ℕ, _≤_}
 use native.Mathlib.Omega.{arith}
-use lib.ListN.{length, take, drop}
+use lib.ListN.{length, take, drop, length-append}
 use lib.Seq.{take-at}
 use Rattle.chapter11.specs.declared.Answer.{Answer}
 use Rattle.chapter11.specs.declared.Answer.the-variants.{Done, Refused}
@@ -27,6 +27,10 @@ done d y n a (refuses m) e k =
 
 pub at-front : {d y : List ℕ} {n : ℕ} {o : Outcome} (g : Gave d y n o) → take n y ≡ g .result
 at-front {d} {y} {n} g = ap (take n) (g .buffer) ∙ take-at (g .result) (drop (length (g .result)) d) n (sym (g .count))
+
+pub front-fits : {d y : List ℕ} {n : ℕ} {o : Outcome} → Gave d y n o → n ≤ length y
+front-fits {d} g =
+    omega (arith, g .count, ap length (g .buffer), length-append (g .result) (drop (length (g .result)) d))
 
 pub refused : (d y : List ℕ) (n : ℕ) (a : Answer) (o : Outcome) → _≡_ {A = Left} (record { answer = a; buffer = y }) (left d o) → a ≡ Refused n
     → (o ≡ refuses n) × (y ≡ d)

@@ -3,7 +3,7 @@
 use mathlib.Core.Path.{_≡_, refl, sym, ap, ap₂, subst, _∙_}
 use mathlib.Core.Bool.{Bool, true, false, cond}
 use mathlib.Core.List.{List, [], _∷_, _++_, append-assoc}
-use mathlib.Core.Option.{some}
+use mathlib.Core.Option.{Option, none, some}
 use Prim.Native.Nat.{ℕ, zero, suc, _+_, _-_, _*_, _/_, _%_, _≤_, _<_}
 use native.Mathlib.Nat.{mod-eq-of-lt, lt-of-not-le}
 use native.Mathlib.Decide.{decLe}
@@ -12,7 +12,7 @@ use native.Mathlib.Omega.{arith}
 use borrow.Author.Tests.{leb-true, le-leb, eq-eqb}
 use lib.Bits.{bitXor, xor-self}
 use lib.Count.{onesIn}
-use lib.Dec.{leb, lit<, lit≤}
+use lib.Dec.{eqb, leb, lit<, lit≤}
 use lib.ListN.{length, getD, take, drop, length-append, length-take, length-drop, take-append-drop, List·getD-eq-default}
 use lib.Seq.{length-take-le, drop-cons, take-append-le, take-append-add, take-at, drop-at, take-take, take-add, drop-drop, getD-take, getD-drop}
 use Rattle.block.specs.Block.{placed}
@@ -23,9 +23,9 @@ use Rattle.wire.specs.Wire.{word}
 use Rattle.wire.proofs.Laws.{word-length, word-number, number-back}
 use Rattle.chapter11.specs.declared.Fields.{Fields}
 use Rattle.chapter11.specs.Packet.{twoAt, fourAt, two, four, channel, packetLength, dataLength, checksum, sumOf, headerSum, together, fill, isPacket, kept, cutFrom, cutTill, cut, allZero, newLength, headerFor, newHeader, rest, cutFill}
-use Rattle.chapter11.specs.Source.{Outcome, gives, refuses, trailer, fieldsIn, protected, sourcePacket, composedOf, wordAt, numberAt, fieldsFrom, fieldsOf, packetOf, reassembledOf}
+use Rattle.chapter11.specs.Source.{Outcome, gives, refuses, trailer, fieldsIn, protected, sourcePacket, composedOf, wordAt, numberAt, fieldsFrom, fieldsOf, packetOf, packetWith, reassembledOf}
 use Rattle.chapter11.proofs.Packets.{Is, is, sum-size-most}
-use Rattle.chapter11.proofs.Sources.{protected-length, header-length, source-length}
+use Rattle.chapter11.proofs.Sources.{protected-length, source-length, packet-length}
 
 -- ---- a header's numbers, written again
 
@@ -237,6 +237,30 @@ pub composed-fits : (p : List ℕ) (room : ℕ) (sp : List ℕ) → composedOf p
 composed-fits p room sp e =
     let c = composed-is p room sp e in
     omega (arith, c .1 .0, ap length (c .1 .1), source-length p (is p (c .0)))
+
+-- and what is reassembled fits too
+pub reassembled-fits : (sp : List ℕ) (room : ℕ) (s : List ℕ) → reassembledOf sp room ≡ gives s → length s ≤ room
+unfolding reassembledOf
+reassembled-fits sp room s e = go (leb 24 (length sp)) refl e
+  where
+    none-given : refuses 17 ≡ gives s → length s ≤ room
+    none-given q = let z : _≡_ {A = ℕ} 0 1 = cc in absurd (omega arith)
+
+    said : (f : Fields) → 24 ≤ length sp → (a b : Bool) → leb (length sp) room ≡ b
+        → cond a (cond b (gives (packetOf f sp)) (refuses 17)) (refuses 17) ≡ gives s → length s ≤ room
+    said f long true true fit q =
+        let same : packetOf f sp ≡ s = cc in
+        omega (arith, ap length same, packet-length f sp (omega arith), leb-true (length sp) room fit)
+    said f long true false fit q = none-given q
+    said f long false b fit q = none-given q
+
+    with-fields : (o : Option Fields) → 24 ≤ length sp → packetWith o sp room ≡ gives s → length s ≤ room
+    with-fields none long q = none-given q
+    with-fields (some f) long q = said f long (eqb (24 + f .trailer + f .size) (length sp)) (leb (length sp) room) refl q
+
+    go : (t : Bool) → leb 24 (length sp) ≡ t → cond t (packetWith (fieldsOf sp) sp room) (refuses 17) ≡ gives s → length s ≤ room
+    go true h q = with-fields (fieldsOf sp) (leb-true 24 (length sp) h) q
+    go false h q = none-given q
 
 behind-words : (p : List ℕ) → drop 12 (sourcePacket p) ≡ drop 12 (newHeader p) ++ rest p
 unfolding sourcePacket

@@ -1,10 +1,10 @@
 -- What c7unpack does with each find of a recording (R-1 of document 02): the packets of content 3, of either sort, are
 -- reassembled and put one behind the other. A refused one is left out, and its number told. Assumes nothing.
-use Prim.Native.Nat.{ℕ, _+_}
+use Prim.Native.Nat.{ℕ, _+_, _-_}
 use mathlib.Core.Bool.{Bool, false, cond}
-use mathlib.Core.List.{List, _++_}
+use mathlib.Core.List.{List}
 use lib.Dec.{eqb, leb}
-use lib.ListN.{length, take, drop}
+use lib.ListN.{length}
 use Rattle.block.specs.Block.{Block, placed}
 use Rattle.chapter11.specs.Source.{Outcome, gives, refuses, reassembledOf}
 use Rattle.receiver.specs.declared.Find.{Find}
@@ -31,5 +31,7 @@ unpacked (refuses n) o = record { block = o; refused = n }
 unfoldable pub findOf : Find → List ℕ → Block → After
 findOf f sp o =
     cond (isChapter11 f)
-    (unpacked (reassembledOf sp (length (drop (o .at) (o .bytes)))) o)
+    (cond (leb (o .at) (length (o .bytes)))
+    (unpacked (reassembledOf sp (length (o .bytes) - o .at)) o)
+    (record { block = o; refused = 17 }))
     (record { block = o; refused = 0 })

@@ -1,54 +1,45 @@
+-- `packing::of_length` meets its contract.
+-- Assumes nothing.
+use mathlib.Core.Path.{ap, sym}
+use Rattle.house.specs.declared.Record.{Record}
+use Rattle.packing.specs.Packing.{ofLength}
 use borrow.Author.Needs.{needs}
 use Rattle.packing.proofs.of_length.Statement.{statement}
 use Rattle.packing.proofs.of_length.Tie as tie
-use Rattle.packing.proofs.of_length.Reads as reads
-use Rattle.packing.proofs.of_length.Lts as lts
 
--- src/lib.rt:32:28
 enum-known-said : tie.Need-enum-known-said
 enum-known-said c = search needs
 
--- src/lib.rt:33:23
 enum-known-said-2 : tie.Need-enum-known-said-2
 enum-known-said-2 c = search needs
 
--- src/lib.rt:34:26
 enum-told : tie.Need-enum-told
 enum-told c = search needs
 
--- src/lib.rt:35:25
 enum-told-2 : tie.Need-enum-told-2
 enum-told-2 c = search needs
 
--- src/lib.rt:36:26
 enum-known-said-3 : tie.Need-enum-known-said-3
 enum-known-said-3 c = search needs
 
--- src/lib.rt:37:24
 enum-told-3 : tie.Need-enum-told-3
 enum-told-3 c = search needs
 
--- src/lib.rt:28:1
 returns : tie.Need-returns
-returns c = ?
+returns c = ap (λ (r : Record). ofLength r (c .before .before .before .args .n)) (sym (c .before .said .given .1))
 
--- src/lib.rt:28:1
 returns-2 : tie.Need-returns-2
-returns-2 c = ?
+returns-2 c = ap (λ (r : Record). ofLength r (c .before .before .before .args .n)) (sym (c .before .said2 .given .1))
 
--- src/lib.rt:28:1
 returns-3 : tie.Need-returns-3
 returns-3 c = search needs
 
--- src/lib.rt:28:1
 returns-4 : tie.Need-returns-4
 returns-4 c = search needs
 
--- src/lib.rt:28:1
 returns-5 : tie.Need-returns-5
-returns-5 c = ?
+returns-5 c = ap (λ (r : Record). ofLength r (c .before .before .before .args .n)) (sym (c .before .said3 .given .1))
 
--- src/lib.rt:28:1
 returns-6 : tie.Need-returns-6
 returns-6 c = search needs
 

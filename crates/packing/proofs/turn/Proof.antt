@@ -1,80 +1,74 @@
+-- `packing::turn` meets its contract.
+-- Assumes nothing.
+use mathlib.Core.Path.{sym, _∙_}
+use borrow.Author.Tests.{not-true, not-false}
+use native.Mathlib.Omega.{arith}
+use lib.ListN.{length}
+use Rattle.chapter11.specs.Source.{composedOf}
+use Rattle.chapter11.proofs.Outcomes.{done, front-fits, refused}
+use Rattle.packing.proofs.Laws.{as-it-is, left-out, put-composed}
 use borrow.Author.Needs.{needs}
 use Rattle.packing.proofs.turn.Statement.{statement}
 use Rattle.packing.proofs.turn.Tie as tie
-use Rattle.packing.proofs.turn.Reads as reads
-use Rattle.packing.proofs.turn.Lts as lts
-use Rattle.chapter11.proofs.compose.Reads as compose-reads
-use Rattle.packing.proofs.is_chapter11.Reads as is-chapter11-reads
-use Rattle.packing.proofs.of_length.Reads as of-length-reads
-use Rattle.packing.proofs.put_record.Reads as put-record-reads
 
--- src/lib.rt:56:9
 is-chapter11-requires : tie.Need-is-chapter11-requires
 is-chapter11-requires c κs = search needs
 
--- src/lib.rt:58:17
 put-record-requires : tie.Need-put-record-requires
 put-record-requires c κs = search needs
 
--- src/lib.rt:57:9
 same-length : tie.Need-same-length
 same-length c = search needs
 
--- src/lib.rt:57:9
 returns : tie.Need-returns
-returns c = ?
+returns c =
+    let a = c .before .before .before .before .before .before .before .before .before .args in
+    as-it-is (a .said) (a .data .now) (a .sp .now) (a .out .now) (a .at) _ _ (sym (c .before .before .before .before .before .is-chapter11 .ensures) ∙ not-true _ (c .before .before .before .before .if1 .taken)) (c .before .before .put-record .ensures)
 
--- src/lib.rt:62:11
 compose-requires : tie.Need-compose-requires
 compose-requires c κs = search needs
 
--- src/lib.rt:63:25
 enum-known-n : tie.Need-enum-known-n
 enum-known-n c = search needs
 
--- src/lib.rt:64:22
 enum-known-n-2 : tie.Need-enum-known-n-2
 enum-known-n-2 c = search needs
 
--- src/lib.rt:65:28
 of-length-requires : tie.Need-of-length-requires
 of-length-requires c κs = search needs
 
--- src/lib.rt:65:48
 sub-put-record : tie.Need-sub-put-record
 sub-put-record c = search needs
 
--- src/lib.rt:65:48
 part-put-record-start : tie.Need-part-put-record-start
 part-put-record-start c = search needs
 
--- src/lib.rt:65:48
 part-put-record-end : tie.Need-part-put-record-end
-part-put-record-end c = ?
+part-put-record-end c =
+    let a = c .before .before .before .before .before .before .before .before .before .before .before .before .before .before .args in
+    omega (arith, front-fits (done (a .sp .now) _ _ _ (composedOf (a .data .now) (length (a .sp .now))) (c .before .before .before .before .before .before .before .compose .ensures) (c .before .before .before .n2 .given .1)))
 
--- src/lib.rt:65:17
 put-record-requires-2 : tie.Need-put-record-requires-2
 put-record-requires-2 c κs = search needs
 
--- src/lib.rt:53:1
 same-length-2 : tie.Need-same-length-2
 same-length-2 c = search needs
 
--- src/lib.rt:53:1
 returns-2 : tie.Need-returns-2
-returns-2 c = ?
+returns-2 c =
+    let a = c .before .before .before .before .before .before .before .before .before .before .before .before .args in
+    left-out (a .said) (a .data .now) (a .sp .now) (a .out .now) (a .at) _ _ (sym (c .before .before .before .before .before .before .before .before .is-chapter11 .ensures) ∙ not-false _ (c .before .before .before .before .before .before .before .if1 .left)) (refused (a .sp .now) _ _ _ (composedOf (a .data .now) (length (a .sp .now))) (c .before .before .before .before .before .compose .ensures) (c .before .n .given .1))
 
--- src/lib.rt:53:1
 same-length-3 : tie.Need-same-length-3
 same-length-3 c = search needs
 
--- src/lib.rt:53:1
 same-length-4 : tie.Need-same-length-4
 same-length-4 c = search needs
 
--- src/lib.rt:53:1
 returns-3 : tie.Need-returns-3
-returns-3 c = ?
+returns-3 c =
+    let a = c .before .before .before .before .before .before .before .before .before .before .before .before .before .before .before .before .before .before .before .args in
+    put-composed (a .said) (a .data .now) (a .sp .now) (a .out .now) (a .at) _ _ _ _ _ (sym (c .before .before .before .before .before .before .before .before .before .before .before .before .before .before .before .is-chapter11 .ensures) ∙ not-false _ (c .before .before .before .before .before .before .before .before .before .before .before .before .before .before .if1 .left)) (done (a .sp .now) _ _ _ (composedOf (a .data .now) (length (a .sp .now))) (c .before .before .before .before .before .before .before .before .before .before .before .before .compose .ensures) (c .before .before .before .before .before .before .before .before .n2 .given .1)) (c .before .before .before .before .before .before .of-length .ensures) (c .before .before .put-record2 .ensures)
 
 pub turn-spec : {M : Type 1} → statement M
 turn-spec =
