@@ -66,7 +66,7 @@ fn finds(first: Run, tp: &[u8], room: &mut [u8], out: &mut [u8]) -> Run
                 refused: unpacked.refused,
             };
         }
-        if !listing::goes_on(find) {
+        if !receiver::lasts(find) {
             return behind(first, receiver, at, tp);
         }
         left -= 1;

@@ -29,8 +29,8 @@ same-length-2 c = c .before .before .before .before .before .before .out .given 
 returns : tie.Need-returns Inv-loop μ-loop
 returns c = record { able = c .before .before .before .before .before .before .before .before .before .step .ensures .0 .able; from = λ e. absurd (c .if1 .taken e); low = omega arith; end = omega arith }
 
-goes-on-requires : tie.Need-goes-on-requires Inv-loop μ-loop
-goes-on-requires c κs = search needs
+lasts-requires : tie.Need-lasts-requires Inv-loop μ-loop
+lasts-requires c κs = search needs
 
 behind-requires : tie.Need-behind-requires Inv-loop μ-loop
 behind-requires c κs = (c .before .before .before .before .before .before .before .before .before .before .before .before .before .before .before .before .before .before .before .before .pre, c .before .before .before .before .before .before .before .before .before .before .before .step .ensures .0 .able)
@@ -76,7 +76,7 @@ finds-spec =
     same-length
     same-length-2
     returns
-    goes-on-requires
+    lasts-requires
     behind-requires
     same-length-3
     same-length-4
