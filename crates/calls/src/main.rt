@@ -122,13 +122,14 @@ fn to_receiver(s: State, entry: Entry, received: &[u8], room: &mut [u8], out: &m
             let stream = (entry.b % 256) as u8;
             receiving::open(s, entry.a, stream, &room[0..c], out)
         }
-        6 => {
-            let asked = receiving::next(s, &received[0..a], &mut room[0..c], out);
+        7 => receiving::gap(s, out),
+        11 => receiving::all(s, &received[0..a], &mut room[0..c], out, false),
+        13 => receiving::all(s, &received[0..a], &mut room[0..c], out, true),
+        _ => {
+            let asked = receiving::next(s, &received[0..a], &mut room[0..c], out, op == 12);
             let state = asked.state;
             state
         }
-        7 => receiving::gap(s, out),
-        _ => receiving::all(s, &received[0..a], &mut room[0..c], out),
     }
 }
 
@@ -222,7 +223,7 @@ fn turn(
     if entry.op < 1 {
         return Next::Stop(s.at);
     }
-    if 11 < entry.op {
+    if 13 < entry.op {
         return Next::Stop(s.at);
     }
     if buf.len() < n {

@@ -5,6 +5,7 @@ use crate::State;
 use crate::text::freed;
 use crate::text::put_digest;
 use crate::text::put_find;
+use receiver::About;
 use receiver::Find;
 use receiver::Opened;
 use receiver::Receiver;
@@ -67,7 +68,22 @@ fn put_next<'a>(
     block::put(out, next, b"\n")
 }
 
-pub fn next(s: State, tp: &[u8], room: &mut [u8], out: &mut [u8]) -> Asked
+// What a find carries; the TP number and the place are not told yet.
+fn put_about(out: &mut [u8], at: usize, about: About) -> usize {
+    let mut next = block::put(out, freed(out, at), b"about 0 0 ");
+    next = block::put_number(out, next, about.repaired);
+    block::put(out, next, b"\n")
+}
+
+fn put_more(out: &mut [u8], at: usize, about: About, more: bool) -> usize {
+    if more {
+        return put_about(out, at, about);
+    }
+    at
+}
+
+// The next find, and if more is to be told what it carries.
+pub fn next(s: State, tp: &[u8], room: &mut [u8], out: &mut [u8], more: bool) -> Asked
     requires { ⌜ Fine s ⌝ }
     ensures { λ r. ⌜ Fine (r .state) ⌝ }
 {
@@ -75,21 +91,23 @@ pub fn next(s: State, tp: &[u8], room: &mut [u8], out: &mut [u8]) -> Asked
     let step = receiver::next(before, tp, room);
     let find = step.find;
     let receiver = step.receiver;
-    let at = put_next(out, s.at, find, tp, room, s.limit);
+    let about = step.about;
+    let line = put_next(out, s.at, find, tp, room, s.limit);
+    let at = put_more(out, line, about, more);
     Asked {
         state: with_receiver(s, receiver, at),
         goes_on: receiver::lasts(find),
     }
 }
 
-pub fn all(first: State, tp: &[u8], room: &mut [u8], out: &mut [u8]) -> State
+pub fn all(first: State, tp: &[u8], room: &mut [u8], out: &mut [u8], more: bool) -> State
     requires { ⌜ Fine first ⌝ }
     ensures { λ r. ⌜ Fine r ⌝ }
 {
     let mut s = first;
     let mut left = LAST;
     while left > 0 {
-        let asked = next(s, tp, room, out);
+        let asked = next(s, tp, room, out, more);
         s = asked.state;
         if !asked.goes_on {
             return s;

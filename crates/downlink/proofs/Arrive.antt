@@ -20,7 +20,7 @@ use Rattle.downlink.proofs.Trains.{Ep, plain, cells, stream}
 use Rattle.downlink.proofs.Items as R
 use Rattle.downlink.proofs.Marks.{Cells, epCells, epsCells}
 use Rattle.downlink.proofs.Loads.{itemCells}
-use Rattle.downlink.proofs.Repair.{headOf, header-reads, kind-fill, kind-complete, kind-first, kind-middle, kind-last}
+use Rattle.downlink.proofs.Repair.{headOf, header-reads, kind-fill, kind-complete, kind-first, kind-middle, kind-last, flipsIn}
 
 -- what reading hands out of an item, where these bytes arrived
 abbrev pub handed : Item → List ℕ → List Packet
@@ -70,7 +70,7 @@ module _ (c f : ℕ) (d bs : List ℕ) (p : c < 16) (q : f < 4) (s : length d < 
   abbrev rep : Ep wire
   rep =
       record {
-        h = headOf c f (length d);
+        h = headOf c f (length d) (flipsIn c f d bs);
         first = getD bs 0 0;
         more = take 5 (drop 1 bs);
         load = take (length d) (drop 6 bs);
@@ -108,7 +108,7 @@ module _ (F room : ℕ) (f₁ : 1 ≤ F) (f₂ : F ≤ 65535) where
       let enough : 6 + length d ≤ length bs = omega (arith, length-append (ep c 3 d) [], ep-length c 3 d) in
       record {
         rs = rep c 3 d bs (omega arith) (omega arith) s enough (near .0) ∷ [];
-        rest-ok = (kind-last c (length d) p q, refl, m);
+        rest-ok = (kind-last c (length d) (flipsIn c 3 d bs) p q, refl, m);
         is-mix = rep-stream c 3 d bs (omega arith) (omega arith) s enough (near .0) [] [] refl;
         loads-are = ap (λ l. l ++ []) (sym (body-is c 3 d bs));
       }
@@ -141,7 +141,7 @@ module _ (F room : ℕ) (f₁ : 1 ≤ F) (f₂ : F ≤ 65535) where
           (omega (arith, length-drop (length e) bs)) (near .1) in
           record {
             rs = rep c 2 x bs (omega arith) (omega arith) short enough (near .0) ∷ r .rs;
-            rest-ok = rest-cons c n (rep c 2 x bs (omega arith) (omega arith) short enough (near .0)) (r .rs) (kind-middle c (length x) p q) refl (omega arith) (r .rest-ok);
+            rest-ok = rest-cons c n (rep c 2 x bs (omega arith) (omega arith) short enough (near .0)) (r .rs) (kind-middle c (length x) (flipsIn c 2 x bs) p q) refl (omega arith) (r .rest-ok);
             is-mix = rep-stream c 2 x bs (omega arith) (omega arith) short enough (near .0) (later k F c (drop F d)) (r .rs) (r .is-mix);
             loads-are = ap (λ l. take (length x) (drop 6 bs) ++ l) (r .loads-are) ∙ ap (λ l. l ++ bodies (later k F c (drop F d)) (drop (length e) bs)) (sym (body-is c 2 x bs));
           }
@@ -162,7 +162,7 @@ module _ (F room : ℕ) (f₁ : 1 ≤ F) (f₂ : F ≤ 65535) where
       let enough : 6 + length d ≤ length bs = omega (arith, length-append (ep 0 0 d) [], ep-length 0 0 d) in
       let s : length d < 65536 = omega arith in
       record {
-        ri = R.padding (rep 0 0 d bs (omega arith) (omega arith) s enough (near .0)) (kind-fill (length d));
+        ri = R.padding (rep 0 0 d bs (omega arith) (omega arith) s enough (near .0)) (kind-fill (length d) (flipsIn 0 0 d bs));
         is-mix = rep-stream 0 0 d bs (omega arith) (omega arith) s enough (near .0) [] [] refl;
         given-is = refl;
       }
@@ -180,7 +180,7 @@ module _ (F room : ℕ) (f₁ : 1 ≤ F) (f₂ : F ≤ 65535) where
           let short : length d < 65536 = omega (arith, leb-true (length d) F t) in
           let enough : 6 + length d ≤ length bs = omega (arith, length-append (ep c 0 d) [], ep-length c 0 d) in
           record {
-            ri = R.single (rep c 0 d bs (omega arith) (omega arith) short enough (near .0)) (kind-complete c (length d) p q) fits;
+            ri = R.single (rep c 0 d bs (omega arith) (omega arith) short enough (near .0)) (kind-complete c (length d) (flipsIn c 0 d bs) p q) fits;
             is-mix = rep-stream c 0 d bs (omega arith) (omega arith) short enough (near .0) [] [] refl;
             given-is = ap (λ l. (c, l) ∷ []) (sym (append-nil (take (length d) (drop 6 bs))) ∙ ap (λ l. l ++ []) (sym (body-is c 0 d bs)));
           }
@@ -196,7 +196,7 @@ module _ (F room : ℕ) (f₁ : 1 ≤ F) (f₂ : F ≤ 65535) where
           let r = rested (length d) (length x) c (drop F d) (drop (length e) bs) p q (omega (arith, length-drop F d)) (omega (arith, length-drop F d))
           (omega (arith, length-drop (length e) bs)) (near .1) in
           record {
-            ri = R.series (rep c 1 x bs (omega arith) (omega arith) short enough (near .0)) (kind-first c (length x) p q) (omega arith) (r .rs) (r .rest-ok);
+            ri = R.series (rep c 1 x bs (omega arith) (omega arith) short enough (near .0)) (kind-first c (length x) (flipsIn c 1 x bs) p q) (omega arith) (r .rs) (r .rest-ok);
             is-mix = rep-stream c 1 x bs (omega arith) (omega arith) short enough (near .0) (later (length d) F c (drop F d)) (r .rs) (r .is-mix);
             given-is = ap (λ l. (c, take (length x) (drop 6 bs) ++ l) ∷ []) (r .loads-are)
                 ∙ ap (λ l. (c, l ++ bodies (later (length d) F c (drop F d)) (drop (length e) bs)) ∷ []) (sym (body-is c 1 x bs));

@@ -25,45 +25,45 @@ use Rattle.downlink.proofs.Joins.{packets, packets-append}
 use Rattle.downlink.proofs.Listen.{lowsOf, lows-append}
 
 -- a find, as the definition of a whole TP tells it
-abbrev findingOf : Find → List ℕ → List (Finding wire)
-findingOf F.Nothing d = []
-findingOf F.Refused d = []
-findingOf (F.Notice n) d = notice n ∷ []
-findingOf (F.Low c start n) d = low c d ∷ []
-findingOf (F.Ordinary c n) d = ordinary c d ∷ []
+abbrev findingOf : Find → ℕ → List ℕ → List (Finding wire)
+findingOf F.Nothing e d = []
+findingOf F.Refused e d = []
+findingOf (F.Notice n) e d = notice n ∷ []
+findingOf (F.Low c start n) e d = low (record { content = c; repaired = e }) d ∷ []
+findingOf (F.Ordinary c n) e d = ordinary (record { content = c; repaired = e }) d ∷ []
 
 abbrev pub findings : List ℕ → List Called → List (Finding wire)
 findings tp [] = []
-findings tp (c ∷ cs) = findingOf (c .step .find) (dataOf (c .step .find) tp (c .room)) ++ findings tp cs
+findings tp (c ∷ cs) = findingOf (c .step .find) (c .step .about .repaired) (dataOf (c .step .find) tp (c .room)) ++ findings tp cs
 
 -- ---- by sort
 
-low-of : (f : Find) (d : List ℕ) → H.low f d ≡ lowsOf (findingOf f d)
-low-of F.Nothing d = refl
-low-of F.Refused d = refl
-low-of (F.Notice n) d = refl
-low-of (F.Low c start n) d = refl
-low-of (F.Ordinary c n) d = refl
+low-of : (f : Find) (e : ℕ) (d : List ℕ) → H.low f d ≡ lowsOf (findingOf f e d)
+low-of F.Nothing e d = refl
+low-of F.Refused e d = refl
+low-of (F.Notice n) e d = refl
+low-of (F.Low c start n) e d = refl
+low-of (F.Ordinary c n) e d = refl
 
-ordinary-of : (f : Find) (d : List ℕ) → H.ordinary f d ≡ packets wire (findingOf f d)
-ordinary-of F.Nothing d = refl
-ordinary-of F.Refused d = refl
-ordinary-of (F.Notice n) d = refl
-ordinary-of (F.Low c start n) d = refl
-ordinary-of (F.Ordinary c n) d = refl
+ordinary-of : (f : Find) (e : ℕ) (d : List ℕ) → H.ordinary f d ≡ packets wire (findingOf f e d)
+ordinary-of F.Nothing e d = refl
+ordinary-of F.Refused e d = refl
+ordinary-of (F.Notice n) e d = refl
+ordinary-of (F.Low c start n) e d = refl
+ordinary-of (F.Ordinary c n) e d = refl
 
 pub lows-in : (tp : List ℕ) (cs : List Called) → inTp H.low tp cs ≡ lowsOf (findings tp cs)
 lows-in tp [] = refl
 lows-in tp (c ∷ cs) =
     let d = dataOf (c .step .find) tp (c .room) in
-    ap₂ (λ (a b : List Packet). a ++ b) (low-of (c .step .find) d) (lows-in tp cs) ∙ sym (lows-append (findingOf (c .step .find) d) (findings tp cs))
+    ap₂ (λ (a b : List Packet). a ++ b) (low-of (c .step .find) (c .step .about .repaired) d) (lows-in tp cs) ∙ sym (lows-append (findingOf (c .step .find) (c .step .about .repaired) d) (findings tp cs))
 
 pub ordinaries-in : (tp : List ℕ) (cs : List Called) → inTp H.ordinary tp cs ≡ packets wire (findings tp cs)
 ordinaries-in tp [] = refl
 ordinaries-in tp (c ∷ cs) =
     let d = dataOf (c .step .find) tp (c .room) in
-    ap₂ (λ (a b : List Packet). a ++ b) (ordinary-of (c .step .find) d) (ordinaries-in tp cs)
-    ∙ sym (packets-append wire (findingOf (c .step .find) d) (findings tp cs))
+    ap₂ (λ (a b : List Packet). a ++ b) (ordinary-of (c .step .find) (c .step .about .repaired) d) (ordinaries-in tp cs)
+    ∙ sym (packets-append wire (findingOf (c .step .find) (c .step .about .repaired) d) (findings tp cs))
 
 abbrev pub allFindings : List Input → List (List Called) → List (Finding wire)
 allFindings [] css = []
@@ -87,12 +87,12 @@ ordinaries-out (gapTold ∷ xs) css = ordinaries-out xs css
 
 -- ---- the receiver's words for it
 
-saying-is : (cap : ℕ) (f : Find) (d : List ℕ) → saying cap f d ≡ findingOf f d
-saying-is cap F.Nothing d = refl
-saying-is cap F.Refused d = refl
-saying-is cap (F.Notice n) d = refl
-saying-is cap (F.Low c start n) d = refl
-saying-is cap (F.Ordinary c n) d = refl
+saying-is : (cap : ℕ) (f : Find) (e : ℕ) (d : List ℕ) → saying cap f e d ≡ findingOf f e d
+saying-is cap F.Nothing e d = refl
+saying-is cap F.Refused e d = refl
+saying-is cap (F.Notice n) e d = refl
+saying-is cap (F.Low c start n) e d = refl
+saying-is cap (F.Ordinary c n) e d = refl
 
 both : (a b : Bool) → a && b ≡ true → (a ≡ true) × (b ≡ true)
 both true true e = (refl, refl)
@@ -127,15 +127,15 @@ calls-are tp (c ∷ cs) x (gives, then) = go (ends (c .step .find)) refl then (�
     d : List ℕ
     d = dataOf (c .step .find) tp (c .room)
 
-    said : saying (x .receiver .limit) (c .step .find) d ≡ findingOf (c .step .find) d
-    said = saying-is (x .receiver .limit) (c .step .find) d
+    said : saying (x .receiver .limit) (c .step .find) (c .step .about .repaired) d ≡ findingOf (c .step .find) (c .step .about .repaired) d
+    said = saying-is (x .receiver .limit) (c .step .find) (c .step .about .repaired) d
 
     go : (t : Bool) → ends (c .step .find) ≡ t → Either t (cs ≡ []) (Calls tp x′ cs)
         → (Calls tp x′ cs → C.Calls tp (x′ .receiver) (x′ .room) (findings tp cs) (onward x′ cs .receiver) (onward x′ cs .room))
-        → C.Calls tp (x .receiver) (x .room) (findingOf (c .step .find) d ++ findings tp cs) (onward x′ cs .receiver) (onward x′ cs .room)
+        → C.Calls tp (x .receiver) (x .room) (findingOf (c .step .find) (c .step .about .repaired) d ++ findings tp cs) (onward x′ cs .receiver) (onward x′ cs .room)
     go true e none ih =
-        subst⁻¹ (λ (ys : List Called). C.Calls tp (x .receiver) (x .room) (findingOf (c .step .find) d ++ findings tp ys) (onward x′ ys .receiver) (onward x′ ys .room)) none
-        (subst (λ (fs : List (Finding wire)). C.Calls tp (x .receiver) (x .room) fs (c .step .receiver) (c .room)) (said ∙ sym (append-nil (findingOf (c .step .find) d)))
+        subst⁻¹ (λ (ys : List Called). C.Calls tp (x .receiver) (x .room) (findingOf (c .step .find) (c .step .about .repaired) d ++ findings tp ys) (onward x′ ys .receiver) (onward x′ ys .room)) none
+        (subst (λ (fs : List (Finding wire)). C.Calls tp (x .receiver) (x .room) fs (c .step .receiver) (c .room)) (said ∙ sym (append-nil (findingOf (c .step .find) (c .step .about .repaired) d)))
         (C.last gives (ended (c .step .find) e)))
     go false e more ih =
         subst (λ (fs : List (Finding wire)). C.Calls tp (x .receiver) (x .room) (fs ++ findings tp cs) (onward x′ cs .receiver) (onward x′ cs .room)) said

@@ -28,7 +28,7 @@ use Rattle.receiver.specs.Low.{wire}
 use Rattle.receiver.specs.Lows.{lowsOf}
 use Rattle.receiver.specs.Pull.{Pulled, meet}
 use Rattle.receiver.specs.State.{frameOf, todoOf, heldOf, keeps, pullOf, from, Fine, Settled, Staged, Able}
-use Rattle.receiver.specs.Call.{freshOf, Said, Gave, Gives, saidOf, says, leave, holds, unchanged, gone, ordinaryBy, walkTo, startCall, dueCall, lowCall, payloadCall, wordCall, firstCall, stageCall, callOf, stepped}
+use Rattle.receiver.specs.Call.{freshOf, Said, Gave, Gives, saidOf, says, leave, holds, unchanged, gone, ordinaryBy, walkTo, startCall, dueCall, lowCall, payloadCall, wordCall, firstCall, stageCall, callOf, stepped, hands}
 use Rattle.receiver.proofs.Walking.{place, low-in}
 use Rattle.downlink.specs.Damage.{Bytes}
 use Rattle.downlink.proofs.Rests.{phaseOf, keptOf, FrameOk, need, HeldOk, frame-back, no-todo, MetOk, held-back, keeps-back, fine, settled}
@@ -44,10 +44,10 @@ drop-bytes : (n : ℕ) (bs : List ℕ) → Bytes bs → Bytes (drop n bs)
 drop-bytes n bs small i = subst⁻¹ (λ (b : ℕ). b < 256) (getD-drop n bs i 0) (small (n + i))
 
 module _ (r : Receiver) (tp m : List ℕ) (able : Able r) (small : Bytes tp) where
-  as-it-is : (f : Find) (a : Said) → saidOf f tp m ≡ a → Carried tp (leave r (r .stage) (r .walk .at) (frameOf (r .walk .phase)) (todoOf (r .walk .phase)) (heldOf (r .walk .kept) m) (keeps (r .walk .kept)) a m)
+  as-it-is : (f : Find) (a : Said) → saidOf f 0 tp m ≡ a → Carried tp (leave r (r .stage) (r .walk .at) (frameOf (r .walk .phase)) (todoOf (r .walk .phase)) (heldOf (r .walk .kept) m) (keeps (r .walk .kept)) a m)
   unfolding stepped
   as-it-is f a e = record {
-    step = record { receiver = r; find = f };
+    step = record { receiver = r; find = f; about = record { repaired = 0 } };
     room = m;
     gives = record {
       same = ap (λ (a : Said). leave r (r .stage) (r .walk .at) (frameOf (r .walk .phase)) (todoOf (r .walk .phase)) (heldOf (r .walk .kept) m) (keeps (r .walk .kept)) a m) e;
@@ -61,39 +61,39 @@ module _ (r : Receiver) (tp m : List ℕ) (able : Able r) (small : Bytes tp) whe
     now g at ph s =
         record { size = r .size; stream = r .stream; limit = r .limit; stage = g; walk = record { at = at; phase = ph; kept = keptOf s } }
 
-    stands-for : (g : Stage) (at : ℕ) (ph : Phase) (f : Frame wire) (es : List (Event wire)) (s : Held wire) (room : List ℕ) (x : Find) (a : Said)
-        → frameOf ph ≡ f → todoOf ph ≡ es → heldOf (keptOf s) room ≡ s → saidOf x tp room ≡ a
+    stands-for : (g : Stage) (at : ℕ) (ph : Phase) (f : Frame wire) (es : List (Event wire)) (s : Held wire) (room : List ℕ) (x : Find) (t : ℕ) (a : Said)
+        → frameOf ph ≡ f → todoOf ph ≡ es → heldOf (keptOf s) room ≡ s → saidOf x t tp room ≡ a
         → at ≤ r .size → Fine (length m) ph (keptOf s) → Staged g (now g at ph s .walk)
         → Carried tp (leave r g at f es s (holds s) a room)
     unfolding stepped
-    stands-for g at ph f es s room x a e₁ e₂ e₃ e₄ p q t =
+    stands-for g at ph f es s room x t a e₁ e₂ e₃ e₄ p q st =
         record {
-          step = record { receiver = now g at ph s; find = x };
+          step = record { receiver = now g at ph s; find = x; about = record { repaired = t } };
           room = room;
           gives = record {
-            same = ap (λ z. leave r g at z (todoOf ph) (heldOf (keptOf s) room) (keeps (keptOf s)) (saidOf x tp room) room) e₁
-                ∙ ap (λ z. leave r g at f z (heldOf (keptOf s) room) (keeps (keptOf s)) (saidOf x tp room) room) e₂
-                ∙ ap (λ z. leave r g at f es z (keeps (keptOf s)) (saidOf x tp room) room) e₃
-                ∙ ap (λ (z : ℕ). leave r g at f es s z (saidOf x tp room) room) (keeps-back (length m) s)
+            same = ap (λ z. leave r g at z (todoOf ph) (heldOf (keptOf s) room) (keeps (keptOf s)) (saidOf x t tp room) room) e₁
+                ∙ ap (λ z. leave r g at f z (heldOf (keptOf s) room) (keeps (keptOf s)) (saidOf x t tp room) room) e₂
+                ∙ ap (λ z. leave r g at f es z (keeps (keptOf s)) (saidOf x t tp room) room) e₃
+                ∙ ap (λ (z : ℕ). leave r g at f es s z (saidOf x t tp room) room) (keeps-back (length m) s)
                 ∙ ap (λ (z : Said). leave r g at f es s (holds s) z room) e₄;
-            able = record { size = able .size; walk = record { at = p; phase = subst (λ (n : ℕ). Fine n ph (keptOf s)) full q }; stage = t };
+            able = record { size = able .size; walk = record { at = p; phase = subst (λ (n : ℕ). Fine n ph (keptOf s)) full q }; stage = st };
           };
         }
 
     -- ordinary bytes
     plain-by : (o : Option (Finding wire)) (p : Pulled wire) → PulledOk (length m) (r .size) o p → Carried tp (ordinaryBy o r p)
     plain-by none p (e, ok, h) =
-        stands-for S.Fresh 0 (phaseOf (p .frame)) (p .frame) (p .todo) (p .held) (p .room) F.Nothing (says F.Nothing none)
+        stands-for S.Fresh 0 (phaseOf (p .frame)) (p .frame) (p .todo) (p .held) (p .room) F.Nothing 0 (says F.Nothing none)
         (frame-back (p .frame) ok) (no-todo (p .frame) ∙ sym e) (held-back (length m) _ (p .held) (p .room) h) refl
         (omega arith) (fine (length m) (p .frame) (p .held) (p .room) ok h) (settled (length m) (p .frame) ok)
     plain-by (some (notice n)) p (e, rests, q) =
-        stands-for S.Plain (p .at) (rests .phase) (p .frame) (p .todo) (p .held) (p .room) (F.Notice n) (says (F.Notice n) (some n))
+        stands-for S.Plain (p .at) (rests .phase) (p .frame) (p .todo) (p .held) (p .room) (F.Notice n) 0 (says (F.Notice n) (some n))
         (rests .frame) (rests .todo) (rests .kept) refl q (rests .sound) (omega arith)
     plain-by (some (low c d)) p (e, rests, q) = absurd e
     plain-by (some (ordinary c d)) p (e, rests, q) =
-        stands-for S.Plain (p .at) (rests .phase) (p .frame) (p .todo) (p .held) (p .room) (F.Ordinary c (length d))
-        (record { find = F.Ordinary c (length d); number = none; bytes = d })
-        (rests .frame) (rests .todo) (rests .kept) (ap (λ (d′ : List ℕ). record { find = F.Ordinary c (length d); number = none; bytes = d′ }) e) q (rests .sound) (omega arith)
+        stands-for S.Plain (p .at) (rests .phase) (p .frame) (p .todo) (p .held) (p .room) (F.Ordinary (c .content) (length d)) (c .repaired)
+        (hands (F.Ordinary (c .content) (length d)) c d)
+        (rests .frame) (rests .todo) (rests .kept) (ap (λ (d′ : List ℕ). hands (F.Ordinary (c .content) (length d)) c d′) e) q (rests .sound) (omega arith)
 
     start-by : (at : ℕ) (t : Start wire) → MetOk (length m) (t .frame) (meet wire (length m) (heldOf (r .walk .kept) m) m (t .told))
         → at + t .past ≤ length tp → Carried tp (startCall r at t tp m)
@@ -107,7 +107,7 @@ module _ (r : Receiver) (tp m : List ℕ) (able : Able r) (small : Bytes tp) whe
     dropping-it : (n : ℕ) → Carried tp (gone r n m)
     unfolding stepped
     dropping-it n = record {
-      step = record { receiver = freshOf (r .size) (r .stream) (r .limit); find = F.Notice n };
+      step = record { receiver = freshOf (r .size) (r .stream) (r .limit); find = F.Notice n; about = record { repaired = 0 } };
       room = m;
       gives = record { same = refl; able = record { size = able .size; walk = record { at = omega arith; phase = omega arith }; stage = omega arith } };
     }
@@ -124,12 +124,13 @@ module _ (r : Receiver) (tp m : List ℕ) (able : Able r) (small : Bytes tp) whe
           start-by at (outset wire f o (at - 4) (drop at tp)) (t .0) (omega (arith, t .1, length-drop at tp))
 
       -- a find of the low-latency part
-      given : (f : Find) (more : Bool) (at o : ℕ) → o < 2048 → 4 ≤ at → at ≤ length tp → Carried tp (lowCall (L.Gives f more at) r o tp m)
+      given : (f : Find) (t : ℕ) (more : Bool) (at o : ℕ) → o < 2048 → 4 ≤ at → at ≤ length tp → Carried tp (lowCall (L.Gives f t more at) r o tp m)
       unfolding stepped
-      given f more at o p q z = record {
+      given f t more at o p q z = record {
         step = record {
           receiver = record { size = r .size; stream = r .stream; limit = r .limit; stage = cond more (S.Low o) (S.Due o); walk = walkTo r at };
           find = f;
+          about = record { repaired = t };
         };
         room = m;
         gives = record { same = refl; able = record { size = able .size; walk = record { at = omega arith; phase = able .walk .phase }; stage = go more } };
@@ -144,7 +145,7 @@ module _ (r : Receiver) (tp m : List ℕ) (able : Able r) (small : Bytes tp) whe
           let t = dropping (length m) (heldOf (r .walk .kept) m) m refl 11 (drop at tp) in
           start-by at (dropped wire 11 (drop at tp)) (t .0) (omega (arith, t .1, length-drop at tp))
       low-by (L.End at) o p q z = due-by o at z
-      low-by (L.Gives f more at) o p q z = given f more at o p q z
+      low-by (L.Gives f t more at) o p q z = given f t more at o p q z
 
       fresh-by : Carried tp (firstCall r tp m)
       unfolding firstCall

@@ -72,7 +72,7 @@ module _ (tp : List ℕ) (small : Bytes tp) where
   six : (x : Listener) → Able (x .receiver) → length (x .room) ≡ x .receiver .limit → eqb (length tp) (x .receiver .size) ≡ false → (cs : List Called) × Calls tp x cs
   unfolding callOf stepped
   six x able full e = (
-    record { step = record { receiver = x .receiver; find = F.Notice 6 }; room = x .room } ∷ [],
+    record { step = record { receiver = x .receiver; find = F.Notice 6; about = record { repaired = 0 } }; room = x .room } ∷ [],
     (record { same = sym (rw (eq-eqb (length (x .room)) (x .receiver .limit) full, e) refl); able = able }, refl),
   )
 

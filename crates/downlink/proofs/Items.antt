@@ -102,41 +102,55 @@ module _ (C : Code) (room : ℕ) where
         go true ih = ap (λ (d : Does C room). d .1) (does-cons C room Middle s e ws (one C room Middle s e) (r .0) refl) ∙ ih (one C room Middle s e .0)
         go false ih = ih s
 
-  fits-ok : (n c : ℕ) (d : List (C .B)) → length d + n ≤ room → fits C room n c d ≡ (held c d, none)
-  fits-ok n c d p = rw (le-leb (length d + n) room p)
+  fits-ok : (n : ℕ) (t : C .T) (d : List (C .B)) → length d + n ≤ room → fits C room n t d ≡ (held t d, none)
+  fits-ok n t d p = rw (le-leb (length d + n) room p)
 
-  goes-on-ok : (c c′ : ℕ) (d : List (C .B)) → c ≡ c′ → goes-on C (held c d) c′ ≡ (held c d, none)
-  goes-on-ok c c′ d p = rw (eq-eqb c c′ p)
+  goes-on-ok : (t : C .T) (c : ℕ) (d : List (C .B)) → C .sort t ≡ c → goes-on C (held t d) c ≡ (held t d, none)
+  goes-on-ok t c d p = rw (eq-eqb (C .sort t) c p)
 
-  inside-on : (c : ℕ) (d : List (C .B)) (h : C .H) → c ≡ C .content h → length d + C .size h ≤ room → inside C room Middle (held c d) h ≡ held c d
-  inside-on c d h p q =
-      ap (λ (t : Took C). further C room (t .0) (C .size h) .0) (goes-on-ok c (C .content h) d p)
-      ∙ ap (λ (t : Took C). t .0) (fits-ok (C .size h) c d q)
+  inside-on : (t : C .T) (d : List (C .B)) (h : C .H) → C .sort t ≡ C .content h → length d + C .size h ≤ room
+      → inside C room Middle (held t d) h ≡ held (C .join t h) d
+  inside-on t d h p q =
+      ap (λ (x : Took C). further C room h (x .0) .0) (goes-on-ok t (C .content h) d p)
+      ∙ ap (λ (x : Took C). x .0) (fits-ok (C .size h) (C .join t h) d q)
 
-  rest-done : (c : ℕ) (d : List (C .B)) (es : List (Ep C)) → Rest c (length d) es
-      → does C room (held c d) (ep-events C es) ≡ (free, (c, d ++ loads es) ∷ [])
-  rest-done c d [] r = absurd r
-  rest-done c d (e ∷ []) r =
-      does-cons C room Last (held c d) e [] (free, (c, d ++ e .load) ∷ []) (r .0)
-      (ap (λ (s : Held C). ended C room Last (joined C s (e .load))) (inside-on c d (e .h) (r .1) (r .2)))
-      ∙ ap (λ l. (free, (c, d ++ l) ∷ [])) (sym (append-nil (e .load)))
-  rest-done c d (e ∷ f ∷ es) r =
+  -- nothing held, and one packet of this content
+  abbrev gone : List (C .B) → ℕ → Does C room
+  gone d c = (free, (c, d) ∷ [])
+
+  rest-done : (t : C .T) (d : List (C .B)) (es : List (Ep C)) → Rest (C .sort t) (length d) es
+      → does C room (held t d) (ep-events C es) ≡ gone (d ++ loads es) (C .sort t)
+  rest-done t d [] r = absurd r
+  rest-done t d (e ∷ []) r =
+      does-cons C room Last (held t d) e [] (gone (d ++ e .load) (C .sort t)) (r .0)
+      (ap (λ (s : Held C). ended C room Last (joined C s (e .load))) (inside-on t d (e .h) (r .1) (r .2))
+      ∙ ap (gone (d ++ e .load)) (C .join-sort t (e .h)))
+      ∙ ap (λ l. gone (d ++ l) (C .sort t)) (sym (append-nil (e .load)))
+  rest-done t d (e ∷ f ∷ es) r =
       let n-is : length (d ++ e .load) ≡ length d + C .size (e .h) = omega (arith, length-append d (e .load), e .sized) in
-      does-cons C room Middle (held c d) e (f ∷ es) (held c (d ++ e .load), []) (r .0)
-      (ap (λ (s : Held C). ended C room Middle (joined C s (e .load))) (inside-on c d (e .h) (r .1) (r .2)))
-      ∙ rest-done c (d ++ e .load) (f ∷ es) (subst⁻¹ (λ n. Rest c n (f ∷ es)) n-is (r .3))
-      ∙ ap (λ l. (free, (c, l) ∷ [])) (append-assoc d (e .load) (loads (f ∷ es)))
+      let same = C .join-sort t (e .h) in
+      let u : C .T = C .join t (e .h) in
+      does-cons C room Middle (held t d) e (f ∷ es) (held u (d ++ e .load), []) (r .0)
+      (ap (λ (s : Held C). ended C room Middle (joined C s (e .load))) (inside-on t d (e .h) (r .1) (r .2)))
+      ∙ rest-done u (d ++ e .load) (f ∷ es)
+      (subst⁻¹ (λ n. Rest (C .sort u) n (f ∷ es)) n-is (subst⁻¹ (λ c. Rest c (length d + C .size (e .h)) (f ∷ es)) same (r .3)))
+      ∙ ap (gone ((d ++ e .load) ++ loads (f ∷ es))) same
+      ∙ ap (λ l. gone l (C .sort t)) (append-assoc d (e .load) (loads (f ∷ es)))
 
   item-whole : (i : Item) → does C room free (ep-events C (eps i)) ≡ (free, given i)
   item-whole (padding e k) = does-cons C room Fill free e [] (free, []) k refl
   item-whole (single e k s) =
-      does-cons C room Complete free e [] (free, (C .content (e .h), e .load) ∷ []) k
-      (ap (λ (t : Took C). ended C room Complete (joined C (t .0) (e .load))) (fits-ok (C .size (e .h)) (C .content (e .h)) [] (omega arith)))
+      does-cons C room Complete free e [] (gone (e .load) (C .content (e .h))) k
+      (ap (λ (t : Took C). ended C room Complete (joined C (t .0) (e .load))) (fits-ok (C .size (e .h)) (C .begin (e .h)) [] (omega arith))
+      ∙ ap (gone (e .load)) (C .begin-sort (e .h)))
   item-whole (series e k s es r) =
       let n-is : length (e .load) ≡ C .size (e .h) = e .sized in
-      does-cons C room First free e es (held (C .content (e .h)) (e .load), []) k
-      (ap (λ (t : Took C). ended C room First (joined C (t .0) (e .load))) (fits-ok (C .size (e .h)) (C .content (e .h)) [] (omega arith)))
-      ∙ rest-done (C .content (e .h)) (e .load) es (subst⁻¹ (λ n. Rest (C .content (e .h)) n es) n-is r)
+      let same = C .begin-sort (e .h) in
+      let t : C .T = C .begin (e .h) in
+      does-cons C room First free e es (held t (e .load), []) k
+      (ap (λ (x : Took C). ended C room First (joined C (x .0) (e .load))) (fits-ok (C .size (e .h)) t [] (omega arith)))
+      ∙ rest-done t (e .load) es (subst⁻¹ (λ n. Rest (C .sort t) n es) n-is (subst⁻¹ (λ c. Rest c (C .size (e .h)) es) same r))
+      ∙ ap (gone (e .load ++ loads es)) same
 
   module _ (from to : ℕ) where
     item-late : (at : ℕ) (i : Item) → at < from → does C room free (lie from to at (eps i)) ≡ (free, [])

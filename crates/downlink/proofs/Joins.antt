@@ -21,14 +21,14 @@ module _ (C : Code) where
   abbrev pub packets : List (Finding C) → List Hand
   packets [] = []
   packets (notice n ∷ fs) = packets fs
-  packets (low c d ∷ fs) = packets fs
-  packets (ordinary c d ∷ fs) = (c, d) ∷ packets fs
+  packets (low t d ∷ fs) = packets fs
+  packets (ordinary t d ∷ fs) = (C .sort t, d) ∷ packets fs
 
   pub packets-append : (xs ys : List (Finding C)) → packets (xs ++ ys) ≡ packets xs ++ packets ys
   packets-append [] ys = refl
   packets-append (notice n ∷ xs) ys = packets-append xs ys
-  packets-append (low c d ∷ xs) ys = packets-append xs ys
-  packets-append (ordinary c d ∷ xs) ys = ap (λ l. (c, d) ∷ l) (packets-append xs ys)
+  packets-append (low t d ∷ xs) ys = packets-append xs ys
+  packets-append (ordinary t d ∷ xs) ys = ap (λ l. (C .sort t, d) ∷ l) (packets-append xs ys)
 
   abbrev pub joined : Held C → List (C .B) → Held C
   joined free d = free
@@ -73,9 +73,9 @@ module _ (C : Code) (room : ℕ) where
 
   goes-quiet : (s : Held C) (c : ℕ) → packets C (listed C (goes-on C s c .1)) ≡ []
   goes-quiet free c = refl
-  goes-quiet (held c₀ d) c = go (eqb c₀ c)
+  goes-quiet (held t₀ d) c = go (eqb (C .sort t₀) c)
     where
-      go : (t : Bool) → packets C (listed C (cond {A = Took C} t (held c₀ d, none) (free, some (notice 14)) .1)) ≡ []
+      go : (t : Bool) → packets C (listed C (cond {A = Took C} t (held t₀ d, none) (free, some (notice 14)) .1)) ≡ []
       go true = refl
       go false = refl
 
@@ -91,27 +91,27 @@ module _ (C : Code) (room : ℕ) where
   meets-quiet Middle s c = goes-quiet s c
   meets-quiet Last s c = goes-quiet s c
 
-  fits-quiet : (n c : ℕ) (d : List (C .B)) → packets C (listed C (fits C room n c d .1)) ≡ []
-  fits-quiet n c d = go (leb (length d + n) room)
+  fits-quiet : (n : ℕ) (t : C .T) (d : List (C .B)) → packets C (listed C (fits C room n t d .1)) ≡ []
+  fits-quiet n t d = go (leb (length d + n) room)
     where
-      go : (t : Bool) → packets C (listed C (cond {A = Took C} t (held c d, none) (free, some (notice 15)) .1)) ≡ []
+      go : (b : Bool) → packets C (listed C (cond {A = Took C} b (held t d, none) (free, some (notice 15)) .1)) ≡ []
       go true = refl
       go false = refl
 
-  further-quiet : (s : Held C) (n : ℕ) → packets C (listed C (further C room s n .1)) ≡ []
-  further-quiet free n = refl
-  further-quiet (held c d) n = fits-quiet n c d
+  further-quiet : (h : C .H) (s : Held C) → packets C (listed C (further C room h s .1)) ≡ []
+  further-quiet h free = refl
+  further-quiet h (held t d) = fits-quiet (C .size h) (C .join t h) d
 
-  admit-quiet : (k : Kind) (s : Held C) (c n : ℕ) → packets C (listed C (admit C room k s c n .1)) ≡ []
-  admit-quiet Fill s c n = refl
-  admit-quiet Reserved s c n = refl
-  admit-quiet Complete s c n = fits-quiet n c []
-  admit-quiet First s c n = fits-quiet n c []
-  admit-quiet Middle s c n = further-quiet s n
-  admit-quiet Last s c n = further-quiet s n
+  admit-quiet : (k : Kind) (h : C .H) (s : Held C) → packets C (listed C (admit C room k h s .1)) ≡ []
+  admit-quiet Fill h s = refl
+  admit-quiet Reserved h s = refl
+  admit-quiet Complete h s = fits-quiet (C .size h) (C .begin h) []
+  admit-quiet First h s = fits-quiet (C .size h) (C .begin h) []
+  admit-quiet Middle h s = further-quiet h s
+  admit-quiet Last h s = further-quiet h s
 
   abbrev pub inside : Kind → Held C → C .H → Held C
-  inside k s h = admit C room k (meets C k s (C .content h) .0) (C .content h) (C .size h) .0
+  inside k s h = admit C room k h (meets C k s (C .content h) .0) .0
 
   quietly : (t : Took C) (es : List (Event C)) → packets C (listed C (t .1)) ≡ []
       → _≡_ {A = Does} (holding C room (t .0) es, packets C (listed C (t .1) ++ finds C room (t .0) es)) (does (t .0) es)
@@ -124,7 +124,7 @@ module _ (C : Code) (room : ℕ) where
       let k = C .kind h in
       let t : Took C = meets C k s (C .content h) in
       quietly t (entered h ∷ es) (meets-quiet k s (C .content h))
-      ∙ quietly (admit C room k (t .0) (C .content h) (C .size h)) es (admit-quiet k (t .0) (C .content h) (C .size h))
+      ∙ quietly (admit C room k h (t .0)) es (admit-quiet k h (t .0))
 
   does-feeds : (s : Held C) (d : List (C .B)) (es : List (Event C)) → does s (feeds C d ++ es) ≡ does (joined C s d) es
   does-feeds s [] es = ap (λ t. does t es) (joined-none C s)

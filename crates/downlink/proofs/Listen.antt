@@ -11,9 +11,10 @@ use lib.ListN.{length, take, drop}
 use Rattle.sender.specs.Drawing as D
 use Rattle.receiver.specs.declared.kind.Kind.{Kind}
 use Rattle.receiver.specs.declared.kind.Kind.the-variants.{Fill, Reserved, Complete, First, Middle, Last}
+use Rattle.wire.specs.declared.Header.{Header}
 use Rattle.receiver.specs.Frame.{Frame, Event, lose, gap, opened, entered, fed, closed, Out}
 use Rattle.receiver.specs.Join.{Finding, notice, low, ordinary, Held, free, held, Took, broken, goes-on, meets, handed, finish, fits, further, admit, take-in, listed, holding, finds}
-use Rattle.receiver.specs.Low.{wire}
+use Rattle.receiver.specs.Low.{Tag, wire, beginOf, joinOf}
 use Rattle.receiver.specs.Tp.{Setting, Heard, Stand, Input, tpIn, gapTold, inputOf, listing, listingOf, listingAll}
 use Rattle.sender.specs.Run.{Tp}
 use Rattle.downlink.specs.Damage.{TpNear, TpsNear}
@@ -34,13 +35,13 @@ use Rattle.downlink.proofs.See.{lowsFound, own, own-length, heard-is}
 abbrev pub lowsOf : List (Finding wire) → List Packet
 lowsOf [] = []
 lowsOf (notice n ∷ fs) = lowsOf fs
-lowsOf (low c d ∷ fs) = (c, d) ∷ lowsOf fs
+lowsOf (low t d ∷ fs) = (t .content, d) ∷ lowsOf fs
 lowsOf (ordinary c d ∷ fs) = lowsOf fs
 
 pub lows-append : (xs ys : List (Finding wire)) → lowsOf (xs ++ ys) ≡ lowsOf xs ++ lowsOf ys
 lows-append [] ys = refl
 lows-append (notice n ∷ xs) ys = lows-append xs ys
-lows-append (low c d ∷ xs) ys = ap (λ l. (c, d) ∷ l) (lows-append xs ys)
+lows-append (low t d ∷ xs) ys = ap (λ l. (t .content, d) ∷ l) (lows-append xs ys)
 lows-append (ordinary c d ∷ xs) ys = lows-append xs ys
 
 packets-lows : (ps : List Packet) (bs : List ℕ) → packets wire (lowsFound ps bs) ≡ []
@@ -67,7 +68,7 @@ module _ (room : ℕ) where
 
   lone-goes : (s : Held wire) (c : ℕ) → lone (goes-on wire s c) ≡ []
   lone-goes free c = refl
-  lone-goes (held c₀ d) c = lone-cond (eqb c₀ c) (held c₀ d, none) (free, some (notice 14)) refl refl
+  lone-goes (held t d) c = lone-cond (eqb (t .content) c) (held t d, none) (free, some (notice 14)) refl refl
 
   lone-meets : (k : Kind) (s : Held wire) (c : ℕ) → lone (meets wire k s c) ≡ []
   lone-meets Fill s c = lone-broken s
@@ -77,20 +78,20 @@ module _ (room : ℕ) where
   lone-meets Middle s c = lone-goes s c
   lone-meets Last s c = lone-goes s c
 
-  lone-fits : (n c : ℕ) (d : List ℕ) → lone (fits wire room n c d) ≡ []
-  lone-fits n c d = lone-cond (leb (length d + n) room) (held c d, none) (free, some (notice 15)) refl refl
+  lone-fits : (n : ℕ) (t : Tag) (d : List ℕ) → lone (fits wire room n t d) ≡ []
+  lone-fits n t d = lone-cond (leb (length d + n) room) (held t d, none) (free, some (notice 15)) refl refl
 
-  lone-further : (s : Held wire) (n : ℕ) → lone (further wire room s n) ≡ []
-  lone-further free n = refl
-  lone-further (held c d) n = lone-fits n c d
+  lone-further : (h : Header) (s : Held wire) → lone (further wire room h s) ≡ []
+  lone-further h free = refl
+  lone-further h (held t d) = lone-fits (h .size) (joinOf t h) d
 
-  lone-admit : (k : Kind) (s : Held wire) (c n : ℕ) → lone (admit wire room k s c n) ≡ []
-  lone-admit Fill s c n = refl
-  lone-admit Reserved s c n = refl
-  lone-admit Complete s c n = lone-fits n c []
-  lone-admit First s c n = lone-fits n c []
-  lone-admit Middle s c n = lone-further s n
-  lone-admit Last s c n = lone-further s n
+  lone-admit : (k : Kind) (h : Header) (s : Held wire) → lone (admit wire room k h s) ≡ []
+  lone-admit Fill h s = refl
+  lone-admit Reserved h s = refl
+  lone-admit Complete h s = lone-fits (h .size) (beginOf h) []
+  lone-admit First h s = lone-fits (h .size) (beginOf h) []
+  lone-admit Middle h s = lone-further h s
+  lone-admit Last h s = lone-further h s
 
   lone-handed : (s : Held wire) → lone (handed wire s) ≡ []
   lone-handed free = refl
@@ -108,7 +109,7 @@ module _ (room : ℕ) where
   lone-event s (lose n) = refl
   lone-event s gap = refl
   lone-event s (opened h) = lone-meets (wire .kind h) s (wire .content h)
-  lone-event s (entered h) = lone-admit (wire .kind h) s (wire .content h) (wire .size h)
+  lone-event s (entered h) = lone-admit (wire .kind h) h s
   lone-event s (fed b) = refl
   lone-event s (closed h) = lone-finish (wire .kind h) s
 

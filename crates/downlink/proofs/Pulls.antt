@@ -62,7 +62,7 @@ module _ (cap : ℕ) where
 
   pub kept-ok : (k : Kept) (n : ℕ) (m : List ℕ) → length m ≡ cap → Roomy cap k n → HeldOk cap n (heldOf k m) m
   kept-ok Empty n m l p = tt
-  kept-ok (Of c j) n m l p =
+  kept-ok (Of c sum j) n m l p =
       let e : length (take j m) ≡ j = omega (arith, length-take j m) in
       (omega arith, ap (λ (i : ℕ). take i m) e)
 

@@ -16,14 +16,19 @@ use Rattle.golay.proofs.Ends.{end-near}
 use Rattle.wire.specs.declared.Header.{Header}
 use Rattle.wire.specs.Wire.{word, firstNumber, header, ep}
 use Rattle.wire.specs.Reading.{sortOf, headerOf}
-use Rattle.wire.proofs.Laws.{word-length, word-number, header-back}
+use Rattle.wire.proofs.Laws.{word-length, word-number, headerFlips, header-back}
 use Rattle.receiver.specs.declared.kind.Kind.the-variants.{Fill, Complete, First, Middle, Last}
 use Rattle.receiver.specs.Kind.{pieceOf, kindOf}
 use Rattle.downlink.specs.Damage.{Bytes, Near, NearEnd, HeadNear}
 use Rattle.downlink.proofs.Heads.{three}
 
-abbrev pub headOf : ℕ → ℕ → ℕ → Header
-headOf c f n = record { content = c; fragment = f; size = n }
+-- a header read with so many flips
+abbrev pub headOf : ℕ → ℕ → ℕ → ℕ → Header
+headOf c f n k = record { content = c; fragment = f; size = n; flips = k }
+
+-- how many bits of the header of an EP with the data d differ where it arrived
+abbrev pub flipsIn : ℕ → ℕ → List ℕ → List ℕ → ℕ
+flipsIn c f d bs = headerFlips c f (length d) (number 0 (take 6 bs))
 
 -- ---- words
 
@@ -52,7 +57,7 @@ module _ (c f : ℕ) (d : List ℕ) where
       ∙ ap (take 3) (drop-at (word (firstNumber c f n)) (word (n % 4096) ++ d) 3 (word-length (firstNumber c f n)))
       ∙ take-at (word (n % 4096)) d 3 (word-length (n % 4096))
 
-  pub header-reads : (bs : List ℕ) → c < 16 → f < 4 → n < 65536 → 6 ≤ length bs → HeadNear (ep c f d) bs → headerOf (take 6 bs) ≡ some (headOf c f n)
+  pub header-reads : (bs : List ℕ) → c < 16 → f < 4 → n < 65536 → 6 ≤ length bs → HeadNear (ep c f d) bs → headerOf (take 6 bs) ≡ some (headOf c f n (flipsIn c f d bs))
   unfolding headerOf
   header-reads bs p q s six near =
       let a : List ℕ = take 3 bs in
@@ -73,24 +78,24 @@ module _ (c f : ℕ) (d : List ℕ) where
 
 -- ---- kinds
 
-pub kind-fill : (n : ℕ) → kindOf (headOf 0 0 n) ≡ Fill
+pub kind-fill : (n k : ℕ) → kindOf (headOf 0 0 n k) ≡ Fill
 unfolding kindOf sortOf
-kind-fill n = refl
+kind-fill n k = refl
 
-module _ (c n : ℕ) (c₁ : 1 ≤ c) (c₆ : c ≤ 6) where
-  pub kind-complete : kindOf (headOf c 0 n) ≡ Complete
+module _ (c n k : ℕ) (c₁ : 1 ≤ c) (c₆ : c ≤ 6) where
+  pub kind-complete : kindOf (headOf c 0 n k) ≡ Complete
   unfolding kindOf sortOf pieceOf
   kind-complete = rw (ne-eqb c 0 (omega arith), le-leb c 6 c₆)
 
-  pub kind-first : kindOf (headOf c 1 n) ≡ First
+  pub kind-first : kindOf (headOf c 1 n k) ≡ First
   unfolding kindOf sortOf pieceOf
   kind-first = rw (ne-eqb c 0 (omega arith), le-leb c 6 c₆)
 
-  pub kind-middle : kindOf (headOf c 2 n) ≡ Middle
+  pub kind-middle : kindOf (headOf c 2 n k) ≡ Middle
   unfolding kindOf sortOf pieceOf
   kind-middle = rw (ne-eqb c 0 (omega arith), le-leb c 6 c₆)
 
-  pub kind-last : kindOf (headOf c 3 n) ≡ Last
+  pub kind-last : kindOf (headOf c 3 n k) ≡ Last
   unfolding kindOf sortOf pieceOf
   kind-last = rw (ne-eqb c 0 (omega arith), le-leb c 6 c₆)
 

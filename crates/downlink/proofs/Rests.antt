@@ -16,13 +16,14 @@ use Rattle.wire.specs.declared.Header.{Header}
 use Rattle.receiver.specs.declared.kind.Kind.{Kind}
 use Rattle.receiver.specs.declared.kind.Kind.the-variants.{Fill, Reserved, Complete, First, Middle, Last}
 use Rattle.receiver.specs.declared.walk.Kept.{Kept}
-use Rattle.receiver.specs.declared.walk.Kept.the-variants.{Empty, Of}
+use Rattle.receiver.specs.declared.walk.Kept.the-variants.{Empty}
 use Rattle.receiver.specs.declared.walk.Phase.{Phase}
 use Rattle.receiver.specs.declared.walk.Phase.the-variants.{Lost, Head, Judged, Body}
 use Rattle.receiver.specs.Frame.{Frame, lost, idle, head, body, Event, lose, entered, fed, within, ending, whole, step}
 use Rattle.receiver.specs.Forecast.{phase}
 use Rattle.receiver.specs.Join.{Finding, notice, low, ordinary, Held, free, held, Took, handed, finish, meets, goes-on, broken, fits, further, admit}
-use Rattle.receiver.specs.Low.{wire}
+use Rattle.receiver.specs.Turns.{keptAs}
+use Rattle.receiver.specs.Low.{beginOf, joinOf, Tag, wire}
 use Rattle.receiver.specs.Pull.{Met, dry, found, met, meet}
 use Rattle.receiver.specs.State.{headed, frameOf, todoOf, heldOf, keeps, Fine, Roomy, Settled}
 use Rattle.receiver.specs.Call.{holds}
@@ -38,7 +39,7 @@ phaseOf (body h k) = Body h (suc k)
 
 abbrev pub keptOf : Held wire → Kept
 keptOf free = Empty
-keptOf (held c d) = Of c (length d)
+keptOf (held t d) = keptAs t (length d)
 
 -- bytes of a header: some, and with those that are missing after the next one six
 abbrev pub FrameOk : Frame wire → Type 0
@@ -153,22 +154,22 @@ module _ (cap : ℕ) where
   abbrev Enters : Header → List ℕ → Took wire → Type 0
   Enters h m t = MetOk (within wire h (h .size)) (met wire (t .1) (t .0) m (ending wire h (h .size)) (meet wire cap (t .0) m (ending wire h (h .size))))
 
-  fits-ok : (h : Header) (c : ℕ) (d m : List ℕ) → length d ≤ cap → take (length d) m ≡ d → length m ≡ cap → Enters h m (fits wire cap (h .size) c d)
+  fits-ok : (h : Header) (c : Tag) (d m : List ℕ) → length d ≤ cap → take (length d) m ≡ d → length m ≡ cap → Enters h m (fits wire cap (h .size) c d)
   fits-ok h c d m q e l = go (leb (length d + h .size) cap) refl
     where
       go : (b : Bool) → leb (length d + h .size) cap ≡ b → Enters h m (cond b (held c d, none) (free, some (notice 15)))
       go true t = ending-ok h (h .size) (held c d) m (leb-true (length d + h .size) cap t, e) l
       go false t = (tt, bodied h (h .size) free m tt, l)
 
-  further-ok : (h : Header) (s : Held wire) (m : List ℕ) → HeldOk 0 s m → length m ≡ cap → Enters h m (further wire cap s (h .size))
+  further-ok : (h : Header) (s : Held wire) (m : List ℕ) → HeldOk 0 s m → length m ≡ cap → Enters h m (further wire cap h s)
   further-ok h free m ok l = ending-ok h (h .size) free m tt l
-  further-ok h (held c d) m ok l = fits-ok h c d m (omega (arith, ok .0)) (ok .1) l
+  further-ok h (held c d) m ok l = fits-ok h (joinOf c h) d m (omega (arith, ok .0)) (ok .1) l
 
-  admit-ok : (k : Kind) (h : Header) (s : Held wire) (m : List ℕ) → HeldOk 0 s m → length m ≡ cap → Enters h m (admit wire cap k s (wire .content h) (h .size))
+  admit-ok : (k : Kind) (h : Header) (s : Held wire) (m : List ℕ) → HeldOk 0 s m → length m ≡ cap → Enters h m (admit wire cap k h s)
   admit-ok Fill h s m ok l = ending-ok h (h .size) free m tt l
   admit-ok Reserved h s m ok l = (tt, bodied h (h .size) free m tt, l)
-  admit-ok Complete h s m ok l = fits-ok h (wire .content h) [] m (omega arith) refl l
-  admit-ok First h s m ok l = fits-ok h (wire .content h) [] m (omega arith) refl l
+  admit-ok Complete h s m ok l = fits-ok h (beginOf h) [] m (omega arith) refl l
+  admit-ok First h s m ok l = fits-ok h (beginOf h) [] m (omega arith) refl l
   admit-ok Middle h s m ok l = further-ok h s m ok l
   admit-ok Last h s m ok l = further-ok h s m ok l
 
@@ -187,7 +188,7 @@ module _ (cap : ℕ) where
 
   goes-ok : (h : Header) (s : Held wire) (c : ℕ) (m : List ℕ) → HeldOk 0 s m → length m ≡ cap → Opens h m (goes-on wire s c)
   goes-ok h free c m ok l = (tt, judged h free m tt, l)
-  goes-ok h (held c₀ d) c m ok l = go (eqb c₀ c)
+  goes-ok h (held c₀ d) c m ok l = go (eqb (c₀ .content) c)
     where
       go : (b : Bool) → Opens h m (cond b (held c₀ d, none) (free, some (notice 14)))
       go true = entered-ok h (held c₀ d) m ok l

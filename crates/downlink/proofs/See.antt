@@ -23,7 +23,7 @@ use Rattle.receiver.specs.declared.low.Llep.the-variants.{Whole}
 use Rattle.receiver.specs.Frame.{Frame, Out}
 use Rattle.receiver.specs.Forecast.{Start, start, outset}
 use Rattle.receiver.specs.Join.{Finding, low}
-use Rattle.receiver.specs.Low.{wire, sized, llep, Part, ahead, walk, lowPart}
+use Rattle.receiver.specs.Low.{wire, beginOf, counting, sized, llep, Part, ahead, walk, lowPart}
 use Rattle.receiver.specs.Low as L
 use Rattle.receiver.specs.Tp.{Heard, lowPartIf, behind, worded, heard}
 use Rattle.sender.specs.Run.{Tp}
@@ -34,12 +34,16 @@ use Rattle.downlink.proofs.Marks.{Cells, bytes-length}
 use Rattle.downlink.proofs.Lows.{split, lleps, LowOk, LowsOk, part-cons}
 use Rattle.downlink.proofs.Lows as Y
 use Rattle.downlink.proofs.Loads.{Load, TpIs}
-use Rattle.downlink.proofs.Repair.{headOf, near-word, header-reads, kind-complete, end-more, end-last}
+use Rattle.downlink.proofs.Repair.{headOf, flipsIn, near-word, header-reads, kind-complete, end-more, end-last}
+
+-- the header of a low-latency packet, read where it arrived, with the flips of its end byte
+abbrev lowHead : Packet → List ℕ → Header
+lowHead p bs = counting (getD bs (6 + length (p .1)) 0) (headOf (p .0) 0 (length (p .1)) (flipsIn (p .0) 0 (p .1) bs))
 
 -- the low-latency packets as found
 abbrev pub lowsFound : List Packet → List ℕ → List (Finding wire)
 lowsFound [] bs = []
-lowsFound (p ∷ ps) bs = low (p .0) (take (length (p .1)) (drop 6 bs)) ∷ lowsFound ps (drop (7 + length (p .1)) bs)
+lowsFound (p ∷ ps) bs = low (beginOf (lowHead p bs)) (take (length (p .1)) (drop 6 bs)) ∷ lowsFound ps (drop (7 + length (p .1)) bs)
 
 -- ---- the low-latency part
 
@@ -49,24 +53,24 @@ module _ (P : ℕ) (top : P ≤ 2047) where
   closes h (p ∷ ps) b near = ap (λ (e : End). L.ended e h) (end-more b near)
 
   llep-is : (p : Packet) (ps : List Packet) (bs : List ℕ) → LowOk P top p → LlepsNear (lleps (p ∷ ps)) bs → 7 + length (p .1) ≤ length bs
-      → llep bs ≡ Whole (headOf (p .0) 0 (length (p .1))) (D.some (lleps ps))
+      → llep bs ≡ Whole (lowHead p bs) (D.some (lleps ps))
   unfolding llep sized
   llep-is p ps bs ok near enough =
       let c : ℕ = p .0 in
       let n : ℕ = length (p .1) in
       let c₆ : c ≤ 6 = ok .1 in
       let m : 7 + n ≤ P = ok .2 in
-      let e : headerOf (take 6 bs) ≡ some (headOf c 0 n) = header-reads c 0 (p .1) bs (omega arith) (omega arith) (omega arith) (omega arith) (near .0) in
+      let e : headerOf (take 6 bs) ≡ some (headOf c 0 n (flipsIn c 0 (p .1) bs)) = header-reads c 0 (p .1) bs (omega arith) (omega arith) (omega arith) (omega arith) (near .0) in
       let end : NearEnd (cond (D.some (lleps ps)) 0xFF 0x00) (getD bs (6 + n) 0) =
       subst (λ (k : ℕ). NearEnd (cond (D.some (lleps ps)) 0xFF 0x00) (getD bs k 0)) (ep-length c 0 (p .1)) (near .1) in
-      rw (le-ltb (length bs) 7 (omega arith), e, le-ltb (length bs) (7 + n) enough) (closes (headOf c 0 n) ps (getD bs (6 + n) 0) end)
+      rw (le-ltb (length bs) 7 (omega arith), e, le-ltb (length bs) (7 + n) enough) (closes (lowHead p bs) ps (getD bs (6 + n) 0) end)
 
   walk-one : (k : ℕ) (p : Packet) (ps : List Packet) (bs : List ℕ) → LowOk P top p → LlepsNear (lleps (p ∷ ps)) bs → 7 + length (p .1) ≤ length bs
-      → walk (suc k) bs ≡ ahead (low (p .0) (take (length (p .1)) (drop 6 bs)) ∷ [])
+      → walk (suc k) bs ≡ ahead (low (beginOf (lowHead p bs)) (take (length (p .1)) (drop 6 bs)) ∷ [])
       (cond (D.some (lleps ps)) (walk k (drop (7 + length (p .1)) bs)) (record { finds = []; behind = some (drop (7 + length (p .1)) bs) }))
   unfolding walk
   walk-one k p ps bs ok near enough =
-      rw (llep-is p ps bs ok near enough, kind-complete (p .0) (length (p .1)) (ok .0) (ok .1))
+      rw (llep-is p ps bs ok near enough, kind-complete (p .0) (length (p .1)) (lowHead p bs .flips) (ok .0) (ok .1))
 
   walks : (k : ℕ) (p : Packet) (ps : List Packet) (bs : List ℕ) → LowsOk P top (p ∷ ps) → LlepsNear (lleps (p ∷ ps)) bs
       → length (D.part (lleps (p ∷ ps))) ≤ length bs → length (D.part (lleps (p ∷ ps))) ≤ k
@@ -83,7 +87,7 @@ module _ (P : ℕ) (top : P ≤ 2047) where
       let n-is : n + length (D.part (lleps (r ∷ ps))) ≡ length (D.part (lleps (p ∷ r ∷ ps))) = omega arith in
       let s : 1 + length (ep (p .0) 0 (p .1)) ≡ n = omega arith in
       walk-one k p (r ∷ ps) bs (ok .0) near (omega arith)
-      ∙ ap (ahead (low (p .0) (take (length (p .1)) (drop 6 bs)) ∷ []))
+      ∙ ap (ahead (low (beginOf (lowHead p bs)) (take (length (p .1)) (drop 6 bs)) ∷ []))
       (walks k r ps (drop n bs) (ok .1) (subst (λ (z : ℕ). LlepsNear (lleps (r ∷ ps)) (drop z bs)) s (near .2)) (omega (arith, length-drop n bs)) (omega arith)
       ∙ ap (λ x. record { finds = lowsFound (r ∷ ps) (drop n bs); behind = some x }) (drop-drop (length (D.part (lleps (r ∷ ps)))) n bs ∙ ap (λ (z : ℕ). drop z bs) n-is))
 

@@ -40,12 +40,12 @@ stays (S.Low o) r tp m n = refl
 stays (S.Due o) r tp m n = refl
 stays S.Plain r tp m n = refl
 
-one-find : (cap : ℕ) (f : Find) (d : List ℕ) → ends f ≡ false → length (saying cap f d) ≡ 1
-one-find cap F.Nothing d e = cc
-one-find cap F.Refused d e = cc
-one-find cap (F.Notice n) d e = refl
-one-find cap (F.Low c start n) d e = refl
-one-find cap (F.Ordinary c n) d e = refl
+one-find : (cap : ℕ) (f : Find) (t : ℕ) (d : List ℕ) → ends f ≡ false → length (saying cap f t d) ≡ 1
+one-find cap F.Nothing t d e = cc
+one-find cap F.Refused t d e = cc
+one-find cap (F.Notice n) t d e = refl
+one-find cap (F.Low c start n) t d e = refl
+one-find cap (F.Ordinary c n) t d e = refl
 
 pub ends-soon : (tp : List ℕ) (cs : List Called) (x : Listener) → Able (x .receiver) → length (x .room) ≡ x .receiver .limit → length tp ≡ x .receiver .size
     → Going tp x cs → length cs ≤ length (coming tp x .0)
@@ -57,18 +57,19 @@ ends-soon tp (c ∷ cs) x able full whole (gives, on, going) =
     let r′ : Receiver = c .step .receiver in
     let m′ : List ℕ = c .room in
     let f : Find = c .step .find in
+    let t : ℕ = c .step .about .repaired in
     let lasts = call-lasts r tp m in
     let limit : r′ .limit ≡ r .limit = ap (λ (g : Gave). g .limit) (gives .same) ∙ lasts .limit in
     let size : r′ .size ≡ r .size = ap (λ (g : Gave). g .size) (gives .same) ∙ lasts .size in
     let room : length m′ ≡ length m = ap (λ (g : Gave). length (g .room)) (gives .same) ∙ lasts .room in
     let not-fresh : r′ .stage ≡ S.Fresh → ⊥ = λ e. not-ended f on (told-on r tp m (c .step) m′ gives (call-tells r tp m full whole) e) in
-    let first : coming tp x ≡ before (saying (r .limit) f (dataOf f tp m′)) (coming tp (record { receiver = r′; room = m′ })) =
+    let first : coming tp x ≡ before (saying (r .limit) f t (dataOf f tp m′)) (coming tp (record { receiver = r′; room = m′ })) =
     call-rest r tp m able full whole ∙ ap (λ (g : Gave). afterwards (r .limit) g tp) (sym (gives .same))
-    ∙ ap (before (saying (r .limit) f (dataOf f tp m′))) (ap (λ (n : ℕ). staged n (r′ .stage) r′ tp m′) (sym limit) ∙ stays (r′ .stage) r′ tp m′ not-fresh) in
+    ∙ ap (before (saying (r .limit) f t (dataOf f tp m′))) (ap (λ (n : ℕ). staged n (r′ .stage) r′ tp m′) (sym limit) ∙ stays (r′ .stage) r′ tp m′ not-fresh) in
     let ih = ends-soon tp cs (record { receiver = r′; room = m′ }) (gives .able) (room ∙ full ∙ sym limit) (whole ∙ sym size) going in
     omega (
       arith,
       ap (λ (l : Listing). length (l .0)) first,
-      length-append (saying (r .limit) f (dataOf f tp m′)) (coming tp (record { receiver = r′; room = m′ }) .0),
-      one-find (r .limit) f (dataOf f tp m′) on,
+      length-append (saying (r .limit) f t (dataOf f tp m′)) (coming tp (record { receiver = r′; room = m′ }) .0),
+      one-find (r .limit) f t (dataOf f tp m′) on,
     )

@@ -6,7 +6,7 @@ use mathlib.Core.List.{List, [], _∷_}
 use Prim.Native.Nat.{ℕ}
 use native.Mathlib.Omega.{arith}
 use lib.Count.{onesIn}
-use Rattle.golay.specs.Answers.{endOf}
+use Rattle.golay.specs.Answers.{endFlips, endOf}
 use Rattle.wire.specs.Reading.{headerOf, sortOf}
 use Rattle.receiver.specs.declared.Find.{Find}
 use Rattle.receiver.specs.declared.Find.the-variants as F
@@ -34,10 +34,10 @@ opened = freshOf 16 0 1
 
 -- behind the low-latency packet, and behind the first TP, whose last three bytes begin a header
 abbrev behind : Step
-behind = record { receiver = record { size = 16; stream = 0; limit = 1; stage = Due 9; walk = record { at = 13; phase = Lost; kept = Empty } }; find = F.Low 1 10 2 }
+behind = record { receiver = record { size = 16; stream = 0; limit = 1; stage = Due 9; walk = record { at = 13; phase = Lost; kept = Empty } }; find = F.Low 1 10 2; about = record { repaired = 0 } }
 
 abbrev between : Step
-between = record { receiver = record { size = 16; stream = 0; limit = 1; stage = Fresh; walk = record { at = 0; phase = Head 3 0x1007B4; kept = Empty } }; find = F.Nothing }
+between = record { receiver = record { size = 16; stream = 0; limit = 1; stage = Fresh; walk = record { at = 0; phase = Head 3 0x1007B4; kept = Empty } }; find = F.Nothing; about = record { repaired = 0 } }
 
 can-open : Able opened
 can-open = record { size = omega arith; walk = record { at = omega arith; phase = omega arith }; stage = omega arith }
@@ -45,7 +45,7 @@ can-open = record { size = omega arith; walk = record { at = omega arith; phase 
 -- the first TP's two calls, and what the second TP's first call finds
 
 first-call : Gives (callOf opened firstTp room) behind firstTp room
-unfolding callOf firstCall stepped lowsOf lows llep sized headerOf endOf kindOf sortOf pieceOf onesIn
+unfolding callOf firstCall stepped lowsOf lows llep sized headerOf endOf endFlips kindOf sortOf pieceOf onesIn
 first-call = record {
   same = simp (first-word, low-header);
   able = record { size = omega arith; walk = record { at = omega arith; phase = omega arith }; stage = (omega arith, omega arith, omega arith) };

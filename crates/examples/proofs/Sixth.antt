@@ -1,16 +1,17 @@
 -- Document 01's example 6, the receiver's half: the two TPs, read by the definitions, give low 1 with data 11 22, then
 -- ordinary 4 with data 33, and are listed so. Each word is read once, by its distance 0 from a code word. Assumes nothing.
-use mathlib.Core.Path.{ap, refl, _∙_, _≡_}
-use mathlib.Core.Option.{Option, some}
+use mathlib.Core.Path.{ap₂, refl, sym, _≡_}
+use mathlib.Core.Option.{some}
 use mathlib.Core.List.{[], _∷_}
 use Prim.Native.Nat.{ℕ, _%_, _/_, _^_}
 use lib.Count.{onesIn}
 use lib.Dec.{lit<, lit≤}
-use Rattle.golay.specs.Answers.{Decodes, endOf, reading}
+use Rattle.golay.specs.Answers.{Decodes, endFlips, endOf}
 use Rattle.golay.specs.Golay.{chosen, codeWord, distance, weight}
 use Rattle.golay.specs.declared.Decoded.the-variants.{Word}
+use Rattle.golay.proofs.Theorems.{is-reading}
 use Rattle.wire.proofs.Answers.{number-is}
-use Rattle.wire.specs.Reading.{headerFrom, headerIn, headerOf, numberOf, sortOf, tpNumberIn}
+use Rattle.wire.specs.Reading.{fieldsOf, headerFrom, headerIn, headerOf, sortOf, tpNumberIn}
 use Rattle.receiver.specs.Forecast.{outset}
 use Rattle.receiver.specs.Join.{low, ordinary}
 use Rattle.receiver.specs.Kind.{kindOf, pieceOf}
@@ -18,7 +19,7 @@ use Rattle.receiver.specs.Low.{llep, lowPart, sized, walk}
 use Rattle.receiver.specs.Tp.{heard}
 use Rattle.block.specs.Decimal.{decimal}
 use Rattle.listing.specs.Lines.{lineWith}
-use Rattle.examples.specs.Examples.{sixth, read, listing, sixthListing}
+use Rattle.examples.specs.Examples.{sixth, read, intact, listing, sixthListing}
 
 pub first-word : tpNumberIn 0x809958 ≡ some 0x809
 unfolding tpNumberIn Decodes codeWord distance weight chosen onesIn
@@ -29,27 +30,26 @@ unfolding tpNumberIn Decodes codeWord distance weight chosen onesIn
 second-word = let d : Decodes 0x004A97 (Word 0x004 0) = (lit< tt, refl, lit≤ tt) in number-is 0x004A97 (Word 0x004 0) d
 
 -- six bytes whose two words are intact
-header-is : (w a b : ℕ) → Decodes (w / 2 ^ 24 % 2 ^ 24) (Word a 0) → Decodes (w % 2 ^ 24) (Word b 0) → headerIn w ≡ headerFrom (some a) (some b)
+header-is : (w a b : ℕ) → Decodes (w / 2 ^ 24 % 2 ^ 24) (Word a 0) → Decodes (w % 2 ^ 24) (Word b 0) → headerIn w ≡ some (fieldsOf a b 0)
 unfolding headerIn
 header-is w a b d e =
-    ap (λ (o : Option ℕ). headerFrom o (numberOf (reading (w % 2 ^ 24)))) (number-is (w / 2 ^ 24 % 2 ^ 24) (Word a 0) d)
-    ∙ ap (λ (o : Option ℕ). headerFrom (some a) o) (number-is (w % 2 ^ 24) (Word b 0) e)
+    sym (ap₂ headerFrom (is-reading (w / 2 ^ 24 % 2 ^ 24) (Word a 0) d) (is-reading (w % 2 ^ 24) (Word b 0) e))
 
-pub low-header : headerIn 0x040D9900293E ≡ some (record { content = 1; fragment = 0; size = 2 })
+pub low-header : headerIn 0x040D9900293E ≡ some (record { content = 1; fragment = 0; size = 2; flips = 0 })
 unfolding Decodes codeWord distance weight chosen onesIn
 low-header =
     let d : Decodes 0x040D99 (Word 0x040 0) = (lit< tt, refl, lit≤ tt) in
     let e : Decodes 0x00293E (Word 0x002 0) = (lit< tt, refl, lit≤ tt) in
     header-is 0x040D9900293E 0x040 0x002 d e
 
-pub cut-header : headerIn 0x1007B40018EB ≡ some (record { content = 4; fragment = 0; size = 1 })
+pub cut-header : headerIn 0x1007B40018EB ≡ some (record { content = 4; fragment = 0; size = 1; flips = 0 })
 unfolding Decodes codeWord distance weight chosen onesIn
 cut-header =
     let d : Decodes 0x1007B4 (Word 0x100 0) = (lit< tt, refl, lit≤ tt) in
     let e : Decodes 0x0018EB (Word 0x001 0) = (lit< tt, refl, lit≤ tt) in
     header-is 0x1007B40018EB 0x100 0x001 d e
 
-pub fill-header : headerIn 0x00000000293E ≡ some (record { content = 0; fragment = 0; size = 2 })
+pub fill-header : headerIn 0x00000000293E ≡ some (record { content = 0; fragment = 0; size = 2; flips = 0 })
 unfolding Decodes codeWord distance weight chosen onesIn
 fill-header =
     let d : Decodes 0x000000 (Word 0x000 0) = (lit< tt, refl, lit≤ tt) in
@@ -57,11 +57,11 @@ fill-header =
     header-is 0x00000000293E 0x000 0x002 d e
 
 -- with any room of at least a byte; here of one
-pub example-6 : read sixth ≡ low 1 (0x11 ∷ 0x22 ∷ []) ∷ ordinary 4 (0x33 ∷ []) ∷ []
-unfolding heard lowPart walk llep sized headerOf endOf kindOf sortOf pieceOf outset onesIn
+pub example-6 : read sixth ≡ low (intact 1) (0x11 ∷ 0x22 ∷ []) ∷ ordinary (intact 4) (0x33 ∷ []) ∷ []
+unfolding heard lowPart walk llep sized headerOf endOf endFlips kindOf sortOf pieceOf outset onesIn
 example-6 = simp (first-word, low-header, second-word, cut-header, fill-header)
 
 -- and its listing
 pub example-6-listed : listing sixth ≡ sixthListing
-unfolding heard lowPart walk llep sized headerOf endOf kindOf sortOf pieceOf outset onesIn lineWith decimal
+unfolding heard lowPart walk llep sized headerOf endOf endFlips kindOf sortOf pieceOf outset onesIn lineWith decimal
 example-6-listed = simp (first-word, low-header, second-word, cut-header, fill-header)

@@ -16,7 +16,7 @@ use Rattle.sender.specs.Run.{Call, ordinary, low, draw, World, Tp, deeds, tps}
 use Rattle.receiver.specs.Frame.{lost}
 use Rattle.receiver.specs.Join as J
 use Rattle.receiver.specs.Join.{Finding, free}
-use Rattle.receiver.specs.Low.{wire}
+use Rattle.receiver.specs.Low.{Tag, wire}
 use Rattle.receiver.specs.Tp.{Input, tpIn, listingAll}
 use Rattle.listing.specs.Recordings.{listed}
 
@@ -71,6 +71,10 @@ pub data Hold : List Example → Type 0 where
   done : Hold []
   _and_ : {x : Example} {xs : List Example} → Holds x → Hold xs → Hold (x ∷ xs)
 
+-- a packet of this content, in which nothing was repaired
+abbrev pub intact : ℕ → Tag
+intact c = record { content = c; repaired = 0 }
+
 -- the TPs of example 6
 abbrev pub firstTp : List ℕ
 firstTp = 0x00 ∷ 0x80 ∷ 0x99 ∷ 0x58 ∷ 0x04 ∷ 0x0D ∷ 0x99 ∷ 0x00 ∷ 0x29 ∷ 0x3E ∷ 0x11 ∷ 0x22 ∷ 0x00 ∷ 0x10 ∷ 0x07 ∷ 0xB4 ∷ []
@@ -103,7 +107,7 @@ examples =
     ∷ cuts 2 1 (0x11 ∷ 0x22 ∷ 0x33 ∷ [])
     ((0x05 ∷ 0x0E ∷ 0xFE ∷ 0x00 ∷ 0x29 ∷ 0x3E ∷ 0x11 ∷ 0x22 ∷ []) ∷ (0x07 ∷ 0x08 ∷ 0x33 ∷ 0x00 ∷ 0x18 ∷ 0xEB ∷ 0x33 ∷ []) ∷ [])
     ∷ sends (low 1 (0x11 ∷ 0x22 ∷ []) ∷ ordinary 4 (0x33 ∷ []) ∷ drawn ∷ drawn ∷ []) sixth
-    ∷ reads sixth (J.low 1 (0x11 ∷ 0x22 ∷ []) ∷ J.ordinary 4 (0x33 ∷ []) ∷ [])
+    ∷ reads sixth (J.low (intact 1) (0x11 ∷ 0x22 ∷ []) ∷ J.ordinary (intact 4) (0x33 ∷ []) ∷ [])
     ∷ lists sixth sixthListing
     ∷ sends (ordinary 1 (0x11 ∷ 0x22 ∷ []) ∷ drawn ∷ drawn ∷ [])
     ((0x00 ∷ 0x00 ∷ 0x00 ∷ 0x00 ∷ 0x04 ∷ 0x0D ∷ 0x99 ∷ 0x00 ∷ 0x29 ∷ 0x3E ∷ 0x11 ∷ 0x22 ∷ 0x00 ∷ 0x00 ∷ 0x00 ∷ 0x00 ∷ [])

@@ -3,7 +3,7 @@
 use mathlib.Core.Path.{_≡_, refl, sym, ap, _∙_}
 use mathlib.Core.Bool.{Bool, true, false, cond}
 use mathlib.Core.Option.{none, some}
-use Prim.Native.Nat.{ℕ, _+_, _≤_, _<_}
+use Prim.Native.Nat.{ℕ, zero, suc, _+_, _-_, _/_, _≤_, _<_, min}
 use native.Mathlib.Nat.{lt-of-not-le}
 use native.Mathlib.Omega.{arith}
 use borrow.Author.Tests.{le-leb, lt-leb}
@@ -11,7 +11,7 @@ use lib.Bits.{bitXor, xor-zero-r}
 use lib.Count.{ones, onesIn}
 use lib.Dec.{T, leb, eqb, eqb→eq}
 use Rattle.golay.specs.Golay.{byteDistance}
-use Rattle.golay.specs.Answers.{endByte, endMeant, endOf}
+use Rattle.golay.specs.Answers.{endByte, endFlips, endMeant, endOf}
 use Rattle.golay.specs.declared.End.{End}
 use Rattle.golay.specs.declared.End.the-variants.{Zeros, Ones, Neither}
 use Rattle.golay.proofs.Test.{below, passes}
@@ -55,6 +55,11 @@ module _ (b : ℕ) where
       same Neither Ones e = absurd (let z : _≡_ {A = ℕ} 0 1 = cc in omega arith)
       same Neither Neither e = refl
 
+ones-most : (k n : ℕ) → onesIn k n ≤ k
+unfolding onesIn
+ones-most zero n = omega arith
+ones-most (suc k) n = omega (arith, ones-most k (n / 2))
+
 -- ---- the same of the code's count of a byte's ones
 module _ (b : ℕ) (byte : b < 256) where
   counted : ones b ≡ onesIn 8 b
@@ -68,6 +73,23 @@ module _ (b : ℕ) (byte : b < 256) where
 
   pub just-four : 3 < ones b → ones b < 5 → endByte Neither ≡ endMeant b
   just-four h g = ap endByte (sym (four b (rw counted at h) (rw counted at g))) ∙ meant b
+
+  pub flips-few : ones b ≤ 4 → ones b ≡ endFlips b
+  unfolding endFlips
+  flips-few h = counted ∙ fewer (onesIn 8 b) (rw counted at h)
+    where
+      fewer : (n : ℕ) → n ≤ 4 → n ≡ min n (8 - n)
+      fewer n h = omega arith
+
+  pub flips-many : 4 < ones b → 8 - ones b ≡ endFlips b
+  unfolding endFlips
+  flips-many h = ap (λ (n : ℕ). 8 - n) counted ∙ fewer (onesIn 8 b) (rw counted at h)
+    where
+      fewer : (n : ℕ) → 4 < n → 8 - n ≡ min n (8 - n)
+      fewer n h = omega arith
+
+  pub most : ones b ≤ 8
+  most = omega (arith, counted, ones-most 8 b)
 
 -- ---- flips from 00 and from FF
 

@@ -4,7 +4,7 @@ use mathlib.Core.Path.{_≡_}
 use mathlib.Core.Logic.{_⊎_}
 use mathlib.Core.Option.{Option, none, some}
 use mathlib.Core.Bool.{cond}
-use Prim.Native.Nat.{ℕ, zero, suc, _/_, _^_, _≤_, _<_}
+use Prim.Native.Nat.{ℕ, zero, suc, _-_, _/_, _^_, _≤_, _<_, min}
 use lib.Count.{onesIn}
 use lib.Dec.{leb}
 use Rattle.golay.specs.Golay.{codeWord, weight, distance, syndrome}
@@ -59,3 +59,7 @@ endMeant b = cond (leb (onesIn 8 b) 3) (some 0x00) (cond (leb 5 (onesIn 8 b)) (s
 -- the same as an answer, for the crates above
 unfoldable pub endOf : ℕ → End
 endOf b = cond (leb (onesIn 8 b) 3) Zeros (cond (leb 5 (onesIn 8 b)) Ones Neither)
+
+-- how many bits of an end byte differ from the nearer of the two
+unfoldable pub endFlips : ℕ → ℕ
+endFlips b = min (onesIn 8 b) (8 - onesIn 8 b)

@@ -2,7 +2,7 @@
 ghost use mathlib.Core.Path.{_≡_};
 ghost use lib.Dec.{eqb};
 ghost use Rattle.golay.specs.Golay.{chosen, checks, codeWord, distance, low, syndrome};
-ghost use Rattle.golay.specs.Answers.{Decodes, endByte, endMeant};
+ghost use Rattle.golay.specs.Answers.{Decodes, endByte, endFlips, endMeant};
 
 mod corrections;
 pub mod pair;
@@ -121,4 +121,15 @@ pub fn end_of(b: u8) -> End
         return End::Ones;
     }
     End::Neither
+}
+
+// How many bits of an end byte differ from the nearer of 00 and FF.
+pub fn end_flips(b: u8) -> u8
+    ensures { λ r. ⌜ r ≡ endFlips b ⌝ }
+{
+    let ones = u8::count_ones(b);
+    if ones <= 4 {
+        return ones as u8;
+    }
+    (8 - ones) as u8
 }

@@ -12,8 +12,8 @@ use Rattle.listing.specs.Lines.{headerLine, lowWord, ordinaryWord, notic
 -- "sort (low, ordinary, notice), content or notice number, data bytes (0 for a notice)"
 abbrev pub findLine : ℕ → Finding wire → List ℕ
 findLine tp (notice k) = lineWith tp noticeWord k 0
-findLine tp (low c d) = lineWith tp lowWord c (length d)
-findLine tp (ordinary c d) = lineWith tp ordinaryWord c (length d)
+findLine tp (low t d) = lineWith tp lowWord (t .content) (length d)
+findLine tp (ordinary t d) = lineWith tp ordinaryWord (t .content) (length d)
 
 -- "a line for each find" of the TP with this number
 abbrev pub tpLines : ℕ → List (Finding wire) → List ℕ

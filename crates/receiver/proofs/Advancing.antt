@@ -23,23 +23,24 @@ use Rattle.receiver.specs.declared.walk.Turn.the-variants.{More, Stop}
 use Rattle.receiver.specs.declared.kind.Kind.{Kind}
 use Rattle.receiver.specs.declared.kind.Kind.the-variants.{Complete, Fill, First, Last, Middle, Reserved}
 use Rattle.receiver.specs.declared.walk.Walk.{Walk}
+use Rattle.receiver.specs.Low.{beginOf, joinOf, Tag, tagOf}
 use Rattle.receiver.specs.Kind.{kindOf}
-use Rattle.receiver.specs.Turns.{admitOf, advanceBy, advanceOf, bodyTurn, finishOf, fitsOf, furtherOf, goes, grownBy, handedOf, headerTurn, meetsOf, openedOf, rank, stops, toil, wholeOf}
+use Rattle.receiver.specs.Turns.{admitOf, advanceBy, advanceOf, bodyTurn, finishOf, fitsOf, furtherOf, goes, grownBy, handedOf, headerTurn, keptAs, meetsOf, openedOf, rank, stops, toil, wholeOf}
 use Rattle.receiver.specs.Pieces.{headRole, readOf, roleOf}
 use Rattle.receiver.specs.Turn.{Fits, putBy, putOf}
 use Rattle.receiver.specs.InWalk.{pasted, roomBy, roomOf}
 use Rattle.receiver.specs.State.{Counts, Fine, Roomy, Sound}
 
-pub grown-of : (n c l : ℕ) (k : Kept) → k ≡ Of c l → Of c (l + n) ≡ grownBy n k
-grown-of n c l k e = sym (ap (grownBy n) e)
+pub grown-of : (n c sum l : ℕ) (k : Kept) → k ≡ Of c sum l → Of c sum (l + n) ≡ grownBy n k
+grown-of n c sum l k e = sym (ap (grownBy n) e)
 
 pub counts : (cap n : ℕ) (k : Kept) → cap ≤ 18446744073709551615 → Roomy cap k n → Counts k n
 counts cap n Empty l r = r
-counts cap n (Of c a) l r = omega arith
+counts cap n (Of c sum a) l r = omega arith
 
 pub less-roomy : (cap n z : ℕ) (k : Kept) → Roomy cap k z → n ≤ z → Roomy cap k n
 less-roomy cap n z Empty r l = r
-less-roomy cap n z (Of c a) r l = omega arith
+less-roomy cap n z (Of c sum a) r l = omega arith
 
 module _ (tp : List ℕ) (at left : ℕ) (h : Header) (k : Kept) where
   pub body-cut : length tp - at < left
@@ -72,23 +73,23 @@ abbrev pub walkOf : Turn → Walk
 walkOf (More x) = x
 walkOf (Stop a) = a .walk
 
-fits-at : (at : ℕ) (h : Header) (c n cap : ℕ) → walkOf (fitsOf at h c n cap) .at ≡ at
+fits-at : (at : ℕ) (h : Header) (c : Tag) (n cap : ℕ) → walkOf (fitsOf at h c n cap) .at ≡ at
 unfolding fitsOf
 fits-at at h c n cap = by (leb (h .size) (cap - n))
   where
-    by : (b : Bool) → walkOf (cond b (goes at (Body h (h .size)) (Of c n)) (stops at (Body h (h .size)) Empty (Notice 15))) .at ≡ at
+    by : (b : Bool) → walkOf (cond b (goes at (Body h (h .size)) (keptAs c n)) (stops at (Body h (h .size)) Empty (Notice 15))) .at ≡ at
     by true = refl
     by false = refl
 
 further-at : (at : ℕ) (h : Header) (k : Kept) (cap : ℕ) → walkOf (furtherOf at h k cap) .at ≡ at
 further-at at h Empty cap = refl
-further-at at h (Of c n) cap = fits-at at h c n cap
+further-at at h (Of c sum n) cap = fits-at at h (joinOf (tagOf c sum) h) n cap
 
 pub admit-at : (d : Kind) (at : ℕ) (h : Header) (k : Kept) (cap : ℕ) → walkOf (admitOf d at h k cap) .at ≡ at
 admit-at Fill at h k cap = refl
 admit-at Reserved at h k cap = refl
-admit-at Complete at h k cap = fits-at at h (h .content) 0 cap
-admit-at First at h k cap = fits-at at h (h .content) 0 cap
+admit-at Complete at h k cap = fits-at at h (beginOf h) 0 cap
+admit-at First at h k cap = fits-at at h (beginOf h) 0 cap
 admit-at Middle at h k cap = further-at at h k cap
 admit-at Last at h k cap = further-at at h k cap
 
@@ -103,7 +104,7 @@ whole-at at (some h) k cap = by (meetsOf (kindOf h) k (h .content))
 
 handed-at : (at : ℕ) (k : Kept) → walkOf (handedOf at k) .at ≡ at
 handed-at at Empty = refl
-handed-at at (Of c n) = refl
+handed-at at (Of c sum n) = refl
 
 pub finish-at : (d : Kind) (at : ℕ) (k : Kept) → walkOf (finishOf d at k) .at ≡ at
 finish-at Fill at k = refl
@@ -164,9 +165,9 @@ module _ (cap : ℕ) (w : Walk) (tp : List ℕ) where
       by (Head n x) k = headed (walkOf (advanceBy (Head n x) (w .at) k cap tp) .phase) (w .at) (walkOf (advanceBy (Head n x) (w .at) k cap tp) .at)
       by (Judged h) k = refl
       by (Body h left) Empty = refl
-      by (Body h left) (Of c i) =
-          let e = body-at tp (w .at) h left (Of c i) in
-          let n : walkOf (bodyTurn tp (w .at) h left (Of c i)) .at - w .at ≡ min left (length tp - w .at) = omega arith in
+      by (Body h left) (Of c sum i) =
+          let e = body-at tp (w .at) h left (Of c sum i) in
+          let n : walkOf (bodyTurn tp (w .at) h left (Of c sum i)) .at - w .at ≡ min left (length tp - w .at) = omega arith in
           ap (λ (n : ℕ). paste m i (drop (w .at) tp) n) n
 
   pub advance-fits : Sound cap (length tp) w
@@ -186,9 +187,9 @@ module _ (cap : ℕ) (w : Walk) (tp : List ℕ) where
       by (Head n x) k f = headed (walkOf (advanceBy (Head n x) (w .at) k cap tp) .phase) (walkOf (advanceBy (Head n x) (w .at) k cap tp) .at - w .at)
       by (Judged h) k f = omega arith
       by (Body h left) Empty f = omega arith
-      by (Body h left) (Of c i) f =
-          let e = body-at tp (w .at) h left (Of c i) in
-          let n : walkOf (bodyTurn tp (w .at) h left (Of c i)) .at - w .at ≡ min left (length tp - w .at) = omega arith in
+      by (Body h left) (Of c sum i) f =
+          let e = body-at tp (w .at) h left (Of c sum i) in
+          let n : walkOf (bodyTurn tp (w .at) h left (Of c sum i)) .at - w .at ≡ min left (length tp - w .at) = omega arith in
           omega arith
 
 -- a turn leaves less to do, unless it tells none
@@ -196,7 +197,7 @@ module _ (cap : ℕ) (w : Walk) (tp : List ℕ) where
 abbrev pub LessBy : Gain → ℕ → ℕ → Type 0
 LessBy Nothing a b = 0 ≤ 0
 LessBy (Notice n) a b = a < b
-LessBy (Packet c n) a b = a < b
+LessBy (Packet c sum n) a b = a < b
 
 abbrev pub gainOf : Turn → Gain
 gainOf (More x) = Notice 0
@@ -211,29 +212,29 @@ rank-in (Body h n) = omega arith
 less : (g : Gain) (a b : ℕ) → a < b → LessBy g a b
 less Nothing a b l = omega arith
 less (Notice n) a b l = l
-less (Packet c n) a b l = l
+less (Packet c sum n) a b l = l
 
-fits-rank : (at : ℕ) (h : Header) (c n cap : ℕ) → rank (walkOf (fitsOf at h c n cap) .phase) ≡ 1
+fits-rank : (at : ℕ) (h : Header) (c : Tag) (n cap : ℕ) → rank (walkOf (fitsOf at h c n cap) .phase) ≡ 1
 unfolding fitsOf
 fits-rank at h c n cap = by (leb (h .size) (cap - n))
   where
-    by : (b : Bool) → rank (walkOf (cond b (goes at (Body h (h .size)) (Of c n)) (stops at (Body h (h .size)) Empty (Notice 15))) .phase) ≡ 1
+    by : (b : Bool) → rank (walkOf (cond b (goes at (Body h (h .size)) (keptAs c n)) (stops at (Body h (h .size)) Empty (Notice 15))) .phase) ≡ 1
     by true = refl
     by false = refl
 
 admit-rank : (d : Kind) (at : ℕ) (h : Header) (k : Kept) (cap : ℕ) → rank (walkOf (admitOf d at h k cap) .phase) ≡ 1
 admit-rank Fill at h k cap = refl
 admit-rank Reserved at h k cap = refl
-admit-rank Complete at h k cap = fits-rank at h (h .content) 0 cap
-admit-rank First at h k cap = fits-rank at h (h .content) 0 cap
+admit-rank Complete at h k cap = fits-rank at h (beginOf h) 0 cap
+admit-rank First at h k cap = fits-rank at h (beginOf h) 0 cap
 admit-rank Middle at h Empty cap = refl
-admit-rank Middle at h (Of c n) cap = fits-rank at h c n cap
+admit-rank Middle at h (Of c sum n) cap = fits-rank at h (joinOf (tagOf c sum) h) n cap
 admit-rank Last at h Empty cap = refl
-admit-rank Last at h (Of c n) cap = fits-rank at h c n cap
+admit-rank Last at h (Of c sum n) cap = fits-rank at h (joinOf (tagOf c sum) h) n cap
 
 handed-rank : (at : ℕ) (k : Kept) → rank (walkOf (handedOf at k) .phase) ≡ 0
 handed-rank at Empty = refl
-handed-rank at (Of c n) = refl
+handed-rank at (Of c sum n) = refl
 
 finish-rank : (d : Kind) (at : ℕ) (k : Kept) → rank (walkOf (finishOf d at k) .phase) ≡ 0
 finish-rank Fill at k = refl

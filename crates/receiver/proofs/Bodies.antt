@@ -24,7 +24,7 @@ use Rattle.receiver.specs.declared.walk.Walk.{Walk}
 use Rattle.receiver.specs.Frame.{ending, whole, within}
 use Rattle.receiver.specs.Join.{Held, held}
 use Rattle.receiver.specs.Kind.{kindOf}
-use Rattle.receiver.specs.Low.{wire}
+use Rattle.receiver.specs.Low.{tagOf, wire}
 use Rattle.receiver.specs.Pull.{dry, meet, pull}
 use Rattle.receiver.specs.State.{Fine, Roomy, Sound, headed, heldOf, pullOf}
 use Rattle.receiver.specs.Turns.{advanceBy, advanceOf, bodyTurn, finishOf, grownBy, headerTurn, stops, walkAt, wholeOf}
@@ -37,19 +37,19 @@ use Rattle.receiver.proofs.Turning.{admit-turned, finish-by, whole-turn
 pub kept-held : (cap n : ℕ) (k : Kept) (m x : List ℕ) → length m ≡ cap → Roomy cap k n → n ≤ length x
     → heldOf (grownBy n k) (pasted k m x n) ≡ grows wire cap (heldOf k m) (take n x)
 kept-held cap n Empty m x f r l = sym (grows-free wire cap (take n x))
-kept-held cap n (Of c a) m x f r l = ap (held c) (take-paste m a x n (omega arith) l) ∙ sym (grows-held wire cap c (take a m) (take n x))
+kept-held cap n (Of c sum a) m x f r l = ap (held (tagOf c sum)) (take-paste m a x n (omega arith) l) ∙ sym (grows-held wire cap (tagOf c sum) (take a m) (take n x))
 
 kept-room : (cap n : ℕ) (k : Kept) (m x : List ℕ) → length m ≡ cap → Roomy cap k n → n ≤ length x
     → pasted k m x n ≡ puts wire cap (heldOf k m) (take n x) m
 kept-room cap n Empty m x f r l = sym (puts-free wire cap (take n x) m)
-kept-room cap n (Of c a) m x f r l =
+kept-room cap n (Of c sum a) m x f r l =
     let t = length-take-le n x l in
     let e = sets-eq (take n x) m a (omega arith) in
-    sym (puts-held wire cap c a (take a m) (take n x) m (sym (length-take-le a m (omega arith))) ∙ rw t at e)
+    sym (puts-held wire cap (tagOf c sum) a (take a m) (take n x) m (sym (length-take-le a m (omega arith))) ∙ rw t at e)
 
 grown-room : (cap n z : ℕ) (k : Kept) → Roomy cap k (n + z) → Roomy cap (grownBy n k) z
 grown-room cap n z Empty r = r
-grown-room cap n z (Of c a) r = omega arith
+grown-room cap n z (Of c sum a) r = omega arith
 
 pub decoded : (n w : ℕ) (ds : List ℕ) → w < 256 ^ n → headerOf (digits n w ++ ds) ≡ headerIn (number w ds)
 unfolding headerOf
@@ -57,11 +57,11 @@ decoded n w ds h = ap headerIn (number-append 0 (digits n w) ds ∙ ap (λ (x : 
 
 pub fewer : (cap n z : ℕ) (k : Kept) → Roomy cap k z → n ≤ z → Roomy cap k n
 fewer cap n z Empty r l = r
-fewer cap n z (Of c a) r l = omega arith
+fewer cap n z (Of c sum a) r l = omega arith
 
 pasted-length : (cap n : ℕ) (k : Kept) (m x : List ℕ) → length m ≡ cap → Roomy cap k n → n ≤ length x → length (pasted k m x n) ≡ cap
 pasted-length cap n Empty m x f r l = f
-pasted-length cap n (Of c a) m x f r l = length-paste m a x n (omega arith) l ∙ f
+pasted-length cap n (Of c sum a) m x f r l = length-paste m a x n (omega arith) l ∙ f
 
 pub room-length : (cap : ℕ) (w : Walk) (tp m : List ℕ) → length m ≡ cap → Sound cap (length tp) w → length (roomOf w tp m) ≡ cap
 unfolding roomOf

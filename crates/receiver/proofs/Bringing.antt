@@ -24,9 +24,9 @@ use Rattle.receiver.specs.declared.walk.Turn.the-variants.{More, Stop}
 use Rattle.receiver.specs.Frame.{Event, Out, after, closed, ending, entered, events, lose, opened, whole}
 use Rattle.receiver.specs.Join.{Finding, Held, Took, admit, finds, finish, fits, free, grown, held, holding, listed, meets, notice}
 use Rattle.receiver.specs.Kind.{kindOf}
-use Rattle.receiver.specs.Low.{wire}
+use Rattle.receiver.specs.Low.{beginOf, joinOf, Tag, tagOf, wire}
 use Rattle.receiver.specs.State.{Roomy, frameOf, headed, heldOf, todoOf}
-use Rattle.receiver.specs.Turns.{admitOf, finishOf, fitsOf, goes, meetsOf, openedOf, stops, wholeOf}
+use Rattle.receiver.specs.Turns.{admitOf, finishOf, fitsOf, goes, keptAs, meetsOf, openedOf, stops, wholeOf}
 use Rattle.receiver.specs.InWalk.{findOf}
 use Rattle.receiver.proofs.Advancing.{walkOf}
 use Rattle.receiver.proofs.Run.{grows}
@@ -42,7 +42,7 @@ abbrev came : List ℕ → Turn → Took wire
 came m t = (heldOf (walkOf t .kept) m, gained m t)
 
 module _ (cap : ℕ) (m : List ℕ) (full : length m ≡ cap) where
-  fits-came : (at : ℕ) (h : Header) (c n : ℕ) (d : List ℕ) → d ≡ take n m → n ≤ cap → fits wire cap (h .size) c d ≡ came m (fitsOf at h c n cap)
+  fits-came : (at : ℕ) (h : Header) (c : Tag) (n : ℕ) (d : List ℕ) → d ≡ take n m → n ≤ cap → fits wire cap (h .size) c d ≡ came m (fitsOf at h c n cap)
   unfolding fitsOf
   fits-came at h c n d x r = by (leb (h .size) (cap - n)) refl
     where
@@ -50,7 +50,7 @@ module _ (cap : ℕ) (m : List ℕ) (full : length m ≡ cap) where
       y = ap length x ∙ length-take-le n m (omega arith)
 
       by : (b : Bool) → leb (h .size) (cap - n) ≡ b
-          → fits wire cap (h .size) c d ≡ came m (cond b (goes at (Body h (h .size)) (Of c n)) (stops at (Body h (h .size)) Empty (Notice 15)))
+          → fits wire cap (h .size) c d ≡ came m (cond b (goes at (Body h (h .size)) (keptAs c n)) (stops at (Body h (h .size)) Empty (Notice 15)))
       by true q =
           let z : leb (length d + h .size) cap ≡ true = le-leb (length d + h .size) cap (omega (arith, y, leb-true (h .size) (cap - n) q)) in
           rw z (ap (λ (d : List ℕ). (held c d, none)) x)
@@ -58,25 +58,25 @@ module _ (cap : ℕ) (m : List ℕ) (full : length m ≡ cap) where
           let z : leb (length d + h .size) cap ≡ false = lt-leb (length d + h .size) cap (omega (arith, y, leb-false (h .size) (cap - n) q)) in
           rw z
 
-  admit-came : (d : Kind) (at : ℕ) (h : Header) (k : Kept) → Roomy cap k 0 → admit wire cap d (heldOf k m) (h .content) (h .size) ≡ came m (admitOf d at h k cap)
+  admit-came : (d : Kind) (at : ℕ) (h : Header) (k : Kept) → Roomy cap k 0 → admit wire cap d h (heldOf k m) ≡ came m (admitOf d at h k cap)
   admit-came Fill at h k r = refl
   admit-came Reserved at h k r = refl
-  admit-came Complete at h k r = fits-came at h (h .content) 0 [] refl (omega arith)
-  admit-came First at h k r = fits-came at h (h .content) 0 [] refl (omega arith)
+  admit-came Complete at h k r = fits-came at h (beginOf h) 0 [] refl (omega arith)
+  admit-came First at h k r = fits-came at h (beginOf h) 0 [] refl (omega arith)
   admit-came Middle at h Empty r = refl
-  admit-came Middle at h (Of c n) r = fits-came at h c n (take n m) refl (omega arith)
+  admit-came Middle at h (Of c sum n) r = fits-came at h (joinOf (tagOf c sum) h) n (take n m) refl (omega arith)
   admit-came Last at h Empty r = refl
-  admit-came Last at h (Of c n) r = fits-came at h c n (take n m) refl (omega arith)
+  admit-came Last at h (Of c sum n) r = fits-came at h (joinOf (tagOf c sum) h) n (take n m) refl (omega arith)
 
 finish-came : (cap : ℕ) (m : List ℕ) (d : Kind) (at : ℕ) (k : Kept) → finish wire d (heldOf k m) ≡ came m (finishOf d at k)
 finish-came cap m Fill at k = refl
 finish-came cap m Reserved at k = refl
 finish-came cap m Complete at Empty = refl
-finish-came cap m Complete at (Of c n) = refl
+finish-came cap m Complete at (Of c sum n) = refl
 finish-came cap m First at k = refl
 finish-came cap m Middle at k = refl
 finish-came cap m Last at Empty = refl
-finish-came cap m Last at (Of c n) = refl
+finish-came cap m Last at (Of c sum n) = refl
 
 -- a turn from this phase, with this kept, over these bytes
 pub record Brings (cap : ℕ) (p : Phase) (k : Kept) (m bs : List ℕ) (t : Turn) (m′ : List ℕ) : Type 0 where
@@ -86,33 +86,33 @@ pub record Brings (cap : ℕ) (p : Phase) (k : Kept) (m bs : List ℕ) (t : Turn
   pub held : holding wire cap (heldOf k m) taken ≡ heldOf (walkOf t .kept) m′
   pub finds : finds wire cap (heldOf k m) taken ≡ listed wire (gained m′ t)
 
-fits-phase : (at : ℕ) (h : Header) (c n cap : ℕ) → walkOf (fitsOf at h c n cap) .phase ≡ Body h (h .size)
+fits-phase : (at : ℕ) (h : Header) (c : Tag) (n cap : ℕ) → walkOf (fitsOf at h c n cap) .phase ≡ Body h (h .size)
 unfolding fitsOf
 fits-phase at h c n cap = by (leb (h .size) (cap - n))
   where
-    by : (b : Bool) → walkOf (cond b (goes at (Body h (h .size)) (Of c n)) (stops at (Body h (h .size)) Empty (Notice 15))) .phase ≡ Body h (h .size)
+    by : (b : Bool) → walkOf (cond b (goes at (Body h (h .size)) (keptAs c n)) (stops at (Body h (h .size)) Empty (Notice 15))) .phase ≡ Body h (h .size)
     by true = refl
     by false = refl
 
 admit-phase : (d : Kind) (at : ℕ) (h : Header) (k : Kept) (cap : ℕ) → walkOf (admitOf d at h k cap) .phase ≡ Body h (h .size)
 admit-phase Fill at h k cap = refl
 admit-phase Reserved at h k cap = refl
-admit-phase Complete at h k cap = fits-phase at h (h .content) 0 cap
-admit-phase First at h k cap = fits-phase at h (h .content) 0 cap
+admit-phase Complete at h k cap = fits-phase at h (beginOf h) 0 cap
+admit-phase First at h k cap = fits-phase at h (beginOf h) 0 cap
 admit-phase Middle at h Empty cap = refl
-admit-phase Middle at h (Of c n) cap = fits-phase at h c n cap
+admit-phase Middle at h (Of c sum n) cap = fits-phase at h (joinOf (tagOf c sum) h) n cap
 admit-phase Last at h Empty cap = refl
-admit-phase Last at h (Of c n) cap = fits-phase at h c n cap
+admit-phase Last at h (Of c sum n) cap = fits-phase at h (joinOf (tagOf c sum) h) n cap
 
 finish-phase : (d : Kind) (at : ℕ) (k : Kept) → walkOf (finishOf d at k) .phase ≡ Head 0 0
 finish-phase Fill at k = refl
 finish-phase Reserved at k = refl
 finish-phase Complete at Empty = refl
-finish-phase Complete at (Of c n) = refl
+finish-phase Complete at (Of c sum n) = refl
 finish-phase First at k = refl
 finish-phase Middle at k = refl
 finish-phase Last at Empty = refl
-finish-phase Last at (Of c n) = refl
+finish-phase Last at (Of c sum n) = refl
 
 module _ (cap : ℕ) (m : List ℕ) (full : length m ≡ cap) where
   pub judged-brings : (h : Header) (k : Kept) (at : ℕ) → Roomy cap k 0 → Brings cap (Judged h) k m [] (admitOf (kindOf h) at h k cap) m
@@ -124,7 +124,7 @@ module _ (cap : ℕ) (m : List ℕ) (full : length m ≡ cap) where
         frame = ap frameOf (sym p);
         told = append-nil (entered h ∷ ending wire h (h .size)) ∙ ap (λ (p : Phase). entered h ∷ todoOf p) (sym p);
         held = ap (λ (T : Took wire). T .0) c;
-        finds = append-nil (listed wire (admit wire cap (kindOf h) (heldOf k m) (h .content) (h .size) .1)) ∙ ap (λ (T : Took wire). listed wire (T .1)) c;
+        finds = append-nil (listed wire (admit wire cap (kindOf h) h (heldOf k m) .1)) ∙ ap (λ (T : Took wire). listed wire (T .1)) c;
       }
 
   pub whole-brings : (n v : ℕ) (bs : List ℕ) (o : Option Header) (k : Kept) (at : ℕ) → Roomy cap k 0 → saw (headed (digits n v)) bs ≡ whole wire o
@@ -153,9 +153,9 @@ module _ (cap : ℕ) (m : List ℕ) (full : length m ≡ cap) where
             taken = opened h ∷ entered h ∷ [];
             frame = ap (λ (o : Out wire). o .0) e ∙ ap frameOf (sym p);
             told = ap (λ (o : Out wire). o .1) e ∙ ap (λ (p : Phase). opened h ∷ entered h ∷ todoOf p) (sym p);
-            held = ap (λ (T : Took wire). admit wire cap (kindOf h) (T .0) (h .content) (h .size) .0) q ∙ ap (λ (T : Took wire). T .0) c;
-            finds = ap (λ (T : Took wire). listed wire (T .1) ++ (listed wire (admit wire cap (kindOf h) (T .0) (h .content) (h .size) .1) ++ [])) q
-                ∙ append-nil (listed wire (admit wire cap (kindOf h) (heldOf k m) (h .content) (h .size) .1)) ∙ ap (λ (T : Took wire). listed wire (T .1)) c;
+            held = ap (λ (T : Took wire). admit wire cap (kindOf h) h (T .0) .0) q ∙ ap (λ (T : Took wire). T .0) c;
+            finds = ap (λ (T : Took wire). listed wire (T .1) ++ (listed wire (admit wire cap (kindOf h) h (T .0) .1) ++ [])) q
+                ∙ append-nil (listed wire (admit wire cap (kindOf h) h (heldOf k m) .1)) ∙ ap (λ (T : Took wire). listed wire (T .1)) c;
           }
 
 -- data bytes are taken in one by one

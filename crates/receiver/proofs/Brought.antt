@@ -56,10 +56,10 @@ stageBrings Plain r tp own = record { lows = []; told = events wire (frameOf (r 
 abbrev pub brought : Receiver → List ℕ → List ℕ → Heard
 brought r tp own = cond (eqb (length tp) (r .size)) (stageBrings (r .stage) r tp own) (refusing 6 (frameOf (r .walk .phase)))
 
--- what a turn tells
-abbrev pub tells : Told → List ℕ → List ℕ → List (Finding wire)
-tells T.More tp m = []
-tells (T.Gives f) tp m = saying 0 f (dataOf f tp m)
+-- what a turn tells, with the total that it carries
+abbrev pub tells : Told → ℕ → List ℕ → List ℕ → List (Finding wire)
+tells T.More e tp m = []
+tells (T.Gives f) e tp m = saying 0 f e (dataOf f tp m)
 
 -- a turn that takes in these events, and leaves the others
 pub record Takes (h : Heard) (r : Receiver) (tp m : List ℕ) (q : Turned) (m′ : List ℕ) : Type 0 where
@@ -67,4 +67,4 @@ pub record Takes (h : Heard) (r : Receiver) (tp m : List ℕ) (q : Turned) (m′
   pub frame : h .frame ≡ frameOf (q .receiver .walk .phase)
   pub told : todoOf (r .walk .phase) ++ h .told ≡ taken ++ todoOf (q .receiver .walk .phase)
   pub held : holding wire (r .limit) (heldOf (r .walk .kept) m) taken ≡ heldOf (q .receiver .walk .kept) m′
-  pub finds : h .lows ++ finds wire (r .limit) (heldOf (r .walk .kept) m) taken ≡ tells (q .told) tp m′
+  pub finds : h .lows ++ finds wire (r .limit) (heldOf (r .walk .kept) m) taken ≡ tells (q .told) (q .about .repaired) tp m′

@@ -56,10 +56,10 @@ module _ (r : Receiver) (tp m : List ℕ) (able : Able r) (full : length m ≡ r
 -- the finds that they gave, and what they left
 pub data Calls (tp : List ℕ) : Receiver → List ℕ → List (Finding wire) → Receiver → List ℕ → Type 0 where
   last : {r : Receiver} {m : List ℕ} {q : Step} {m′ : List ℕ} → Gives (callOf r tp m) q tp m′ → Ended (q .find)
-      → Calls tp r m (saying (r .limit) (q .find) (dataOf (q .find) tp m′)) (q .receiver) m′
+      → Calls tp r m (saying (r .limit) (q .find) (q .about .repaired) (dataOf (q .find) tp m′)) (q .receiver) m′
   more : {r : Receiver} {m : List ℕ} {q : Step} {m′ : List ℕ} {fs : List (Finding wire)} {r′ : Receiver} {m″ : List ℕ}
       → Gives (callOf r tp m) q tp m′ → (Ended (q .find) → ⊥) → Calls tp (q .receiver) m′ fs r′ m″
-      → Calls tp r m (saying (r .limit) (q .find) (dataOf (q .find) tp m′) ++ fs) r′ m″
+      → Calls tp r m (saying (r .limit) (q .find) (q .about .repaired) (dataOf (q .find) tp m′) ++ fs) r′ m″
 
 stage-coming : (g : Stage) (r : Receiver) (tp m : List ℕ) (cap : ℕ) → cap ≡ r .limit → (g ≡ S.Fresh → ⊥)
     → stageRest cap g (r .walk .at) (frameOf (r .walk .phase)) (heldOf (r .walk .kept) m) (todoOf (r .walk .phase)) tp ≡ comingOf g r tp m
@@ -92,7 +92,7 @@ module _ (r : Receiver) (tp m : List ℕ) (q : Step) (m′ : List ℕ) (g : Give
 
   -- in terms of what the step shows
   shown-rest : afterwards (r .limit) (callOf r tp m) tp
-      ≡ before (saying (r .limit) (q .find) (dataOf (q .find) tp m′)) (stageRest (r .limit) (q .receiver .stage) (q .receiver .walk .at) (frameOf (q .receiver .walk .phase)) (heldOf (q .receiver .walk .kept) m′) (todoOf (q .receiver .walk .phase)) tp)
+      ≡ before (saying (r .limit) (q .find) (q .about .repaired) (dataOf (q .find) tp m′)) (stageRest (r .limit) (q .receiver .stage) (q .receiver .walk .at) (frameOf (q .receiver .walk .phase)) (heldOf (q .receiver .walk .kept) m′) (todoOf (q .receiver .walk .phase)) tp)
   unfolding stepped
   shown-rest = ap (λ (g : Gave). afterwards (r .limit) g tp) (sym (g .same))
 
@@ -101,11 +101,11 @@ pub calls-rest : {r : Receiver} {tp m : List ℕ} {fs : List (Finding wire)} {r�
     → Able r → length m ≡ r .limit → length tp ≡ r .size → comingOf (r .stage) r tp m ≡ (fs, standOf r′ m′)
 calls-rest {r} {tp} {m} (last {q = q} {m′ = m′} g e) a f w =
     call-rest r tp m a f w ∙ shown-rest r tp m q m′ g
-    ∙ ap (λ (x : Stage). before (saying (r .limit) (q .find) (dataOf (q .find) tp m′)) (stageRest (r .limit) x (q .receiver .walk .at) (frameOf (q .receiver .walk .phase)) (heldOf (q .receiver .walk .kept) m′) (todoOf (q .receiver .walk .phase)) tp)) (told-over r tp m q m′ g (call-tells r tp m f w) e)
-    ∙ ap (λ (l : List (Finding wire)). (l, standOf (q .receiver) m′)) (append-nil (saying (r .limit) (q .find) (dataOf (q .find) tp m′)))
+    ∙ ap (λ (x : Stage). before (saying (r .limit) (q .find) (q .about .repaired) (dataOf (q .find) tp m′)) (stageRest (r .limit) x (q .receiver .walk .at) (frameOf (q .receiver .walk .phase)) (heldOf (q .receiver .walk .kept) m′) (todoOf (q .receiver .walk .phase)) tp)) (told-over r tp m q m′ g (call-tells r tp m f w) e)
+    ∙ ap (λ (l : List (Finding wire)). (l, standOf (q .receiver) m′)) (append-nil (saying (r .limit) (q .find) (q .about .repaired) (dataOf (q .find) tp m′)))
 calls-rest {r} {tp} {m} (more {q = q} {m′ = m′} g n c) a f w =
     call-rest r tp m a f w ∙ shown-rest r tp m q m′ g
-    ∙ ap (before (saying (r .limit) (q .find) (dataOf (q .find) tp m′)))
+    ∙ ap (before (saying (r .limit) (q .find) (q .about .repaired) (dataOf (q .find) tp m′)))
     (stage-coming (q .receiver .stage) (q .receiver) tp m′ (r .limit) (sym (gave-limit r tp m q m′ g)) (λ e. n (told-on r tp m q m′ g (call-tells r tp m f w) e))
     ∙ calls-rest c (g .able) (gave-room r tp m q m′ g ∙ f ∙ sym (gave-limit r tp m q m′ g)) (w ∙ sym (gave-size r tp m q m′ g)))
 
@@ -122,8 +122,8 @@ six-calls : {r : Receiver} {tp m : List ℕ} {fs : List (Finding wire)} {r′ : 
 unfolding stepped
 six-calls {r} {tp} {m} (last {q = q} {m′ = m′} g e) z f n =
     six-rest r tp m z f n .0 ∙ shown-rest r tp m q m′ g
-    ∙ ap (λ (x : Stage). before (saying (r .limit) (q .find) (dataOf (q .find) tp m′)) (stageRest (r .limit) x (q .receiver .walk .at) (frameOf (q .receiver .walk .phase)) (heldOf (q .receiver .walk .kept) m′) (todoOf (q .receiver .walk .phase)) tp)) (told-over r tp m q m′ g (six-tells r tp m f n z) e)
-    ∙ ap (λ (l : List (Finding wire)). (l, standOf (q .receiver) m′)) (append-nil (saying (r .limit) (q .find) (dataOf (q .find) tp m′)))
+    ∙ ap (λ (x : Stage). before (saying (r .limit) (q .find) (q .about .repaired) (dataOf (q .find) tp m′)) (stageRest (r .limit) x (q .receiver .walk .at) (frameOf (q .receiver .walk .phase)) (heldOf (q .receiver .walk .kept) m′) (todoOf (q .receiver .walk .phase)) tp)) (told-over r tp m q m′ g (six-tells r tp m f n z) e)
+    ∙ ap (λ (l : List (Finding wire)). (l, standOf (q .receiver) m′)) (append-nil (saying (r .limit) (q .find) (q .about .repaired) (dataOf (q .find) tp m′)))
 six-calls {r} {tp} {m} (more {q = q} {m′ = m′} g n c) z f w =
     absurd (n (told-on r tp m q m′ g (six-tells r tp m f w z) (ap (λ (g : Gave). g .stage) (g .same) ∙ six-rest r tp m z f w .1)))
 

@@ -19,13 +19,13 @@ use Rattle.receiver.specs.declared.walk.Kept.the-variants.{Empty, Of}
 use Rattle.receiver.specs.declared.walk.Phase.{Phase}
 use Rattle.receiver.specs.declared.walk.Phase.the-variants.{Body, Head, Judged, Lost}
 use Rattle.receiver.specs.declared.walk.Walk.{Walk}
-use Rattle.receiver.specs.Call.{Gives, Said, gone, holds, leave, lowCall, ordinaryCall, saidOf, says, startCall, stepped, unchanged, walkTo}
+use Rattle.receiver.specs.Call.{Gives, Said, gone, hands, holds, leave, lowCall, ordinaryCall, saidOf, says, startCall, stepped, unchanged, walkTo}
 use Rattle.receiver.specs.Forecast.{dropped}
 use Rattle.receiver.specs.Frame.{Frame, lost, step}
 use Rattle.receiver.specs.Join.{Held, free}
-use Rattle.receiver.specs.Low.{wire}
+use Rattle.receiver.specs.Low.{Tag, tagOf, wire}
 use Rattle.receiver.specs.Outset.{uponOf}
-use Rattle.receiver.specs.Pieces.{stepOf, tellOf}
+use Rattle.receiver.specs.Pieces.{sameOf, stepOf, stepWith, tellOf}
 use Rattle.receiver.specs.InWalk.{Gained, shown}
 use Rattle.receiver.specs.InOutset.{loseOf, setOut}
 use Rattle.receiver.specs.InStages.{setCall}
@@ -68,11 +68,11 @@ settled-of cap (Body h (suc n)) k f e = omega arith
 
 keeps-in : (cap : ℕ) (k : Kept) → Roomy cap k 0 → keeps k ≤ cap
 keeps-in cap Empty r = omega arith
-keeps-in cap (Of c n) r = omega arith
+keeps-in cap (Of c sum n) r = omega arith
 
 kept-told : (m : List ℕ) (k : Kept) → keeps k ≤ length m → keeps k ≡ holds (heldOf k m)
 kept-told m Empty l = refl
-kept-told m (Of c n) l = sym (length-take-le n m l)
+kept-told m (Of c sum n) l = sym (length-take-le n m l)
 
 module _ (r : Receiver) (tp m : List ℕ) (size : 16 ≤ r .size) (whole : length tp ≡ r .size) (full : length m ≡ r .limit) where
   shows : (s : Stage) (at : ℕ) (w : Walk) (a : Said) → Sound (length m) (length tp) w
@@ -82,8 +82,9 @@ module _ (r : Receiver) (tp m : List ℕ) (size : 16 ≤ r .size) (whole : lengt
       ap (λ (k : ℕ). leave r s at (frameOf (w .phase)) (todoOf (w .phase)) (heldOf (w .kept) m) k a m)
       (kept-told m (w .kept) (keeps-in (length m) (w .kept) (roomy (length m) (w .phase) (w .kept) (d .phase))))
 
-  packet-told : (c n : ℕ) → n ≤ length m → saidOf (F.Ordinary c n) tp m ≡ record { find = F.Ordinary c (length (take n m)); number = none; bytes = take n m }
-  packet-told c n l = ap (λ (k : ℕ). record { find = F.Ordinary c k; number = none; bytes = take n m }) (sym (length-take-le n m l))
+  packet-told : (t : Tag) (n : ℕ) → n ≤ length m
+      → saidOf (F.Ordinary (t .content) n) (t .repaired) tp m ≡ hands (F.Ordinary (t .content) (length (take n m))) t (take n m)
+  packet-told t n l = ap (λ (k : ℕ). hands (F.Ordinary (t .content) k) t (take n m)) (sym (length-take-le n m l))
 
   notice-by : (n : ℕ) (w : Walk) (p : Pulled wire) → shown (record { walk = w; gain = G.Notice n }) m ≡ p → Sound (length m) (length tp) w
       → Gives (ordinaryCall r p) (stepOf r Plain (w .at) (w .phase) (w .kept) (F.Notice n)) tp m
@@ -115,9 +116,9 @@ module _ (r : Receiver) (tp m : List ℕ) (size : 16 ≤ r .size) (whole : lengt
         };
       }
   tell-by (G.Notice n) w p e s d q = notice-by n w p e s
-  tell-by (G.Packet c n) w p e s d q = record {
-    same = shows Plain (w .at) w (saidOf (F.Ordinary c n) tp m) s
-        ∙ ap (λ (a : Said). leave r Plain (w .at) (frameOf (w .phase)) (todoOf (w .phase)) (heldOf (w .kept) m) (holds (heldOf (w .kept) m)) a m) (packet-told c n (omega arith))
+  tell-by (G.Packet c sum n) w p e s d q = record {
+    same = shows Plain (w .at) w (saidOf (F.Ordinary c n) sum tp m) s
+        ∙ ap (λ (a : Said). leave r Plain (w .at) (frameOf (w .phase)) (todoOf (w .phase)) (heldOf (w .kept) m) (holds (heldOf (w .kept) m)) a m) (packet-told (tagOf c sum) n (omega arith))
         ∙ ap (ordinaryCall r) e;
     able = record { size = size; walk = rw (full, whole) at s; stage = omega arith };
   }
@@ -140,10 +141,10 @@ module _ (r : Receiver) (tp m : List ℕ) (size : 16 ≤ r .size) (whole : lengt
   low-stage true o w l b s = (l, b, s)
   low-stage false o w l b s = (l, b, s)
 
-  pub low-gives : (o : ℕ) (f : Find) (more : Bool) (i at : ℕ) → o < 2048 → 4 ≤ i → i ≤ length tp → Sound (r .limit) (r .size) (walkTo r at) → Settled (r .walk .phase)
-      → Gives (lowCall (L.Gives f more i) r o tp m) (stepOf r (cond more (Low o) (Due o)) i (r .walk .phase) (r .walk .kept) f) tp m
+  pub low-gives : (o : ℕ) (f : Find) (e : ℕ) (more : Bool) (i at : ℕ) → o < 2048 → 4 ≤ i → i ≤ length tp → Sound (r .limit) (r .size) (walkTo r at) → Settled (r .walk .phase)
+      → Gives (lowCall (L.Gives f e more i) r o tp m) (stepWith r (cond more (Low o) (Due o)) i (r .walk .phase) (r .walk .kept) f e) tp m
   unfolding stepped
-  low-gives o f more i at l b d w z = record {
+  low-gives o f e more i at l b d w z = record {
     same = refl;
     able = record { size = size; walk = record { at = omega arith; phase = w .phase }; stage = low-stage more o (walkTo r i) l b z };
   }
@@ -156,10 +157,10 @@ tell-gives r tp m m₀ size whole full a p e s d q same =
     tell-by r tp m size whole (same ∙ full) (a .gain) (a .walk) p e
     (subst (λ (n : ℕ). Sound n (length tp) (a .walk)) (sym same) s) (subst (λ (n : ℕ). Gained n (a .gain)) (sym same) d) q
 
-pub same-gives : (r : Receiver) (tp m : List ℕ) (n : ℕ) → Able r → Gives (unchanged r (F.Notice n) n m) (record { receiver = r; find = F.Notice n }) tp m
+pub same-gives : (r : Receiver) (tp m : List ℕ) (n : ℕ) → Able r → Gives (unchanged r (F.Notice n) n m) (sameOf r (F.Notice n)) tp m
 unfolding stepped
 same-gives r tp m n a = record { same = refl; able = a }
 
-pub refused-gives : (r : Receiver) (tp m : List ℕ) → Able r → Gives (unchanged r F.Refused 1 m) (record { receiver = r; find = F.Refused }) tp m
+pub refused-gives : (r : Receiver) (tp m : List ℕ) → Able r → Gives (unchanged r F.Refused 1 m) (sameOf r F.Refused) tp m
 unfolding stepped
 refused-gives r tp m a = record { same = refl; able = a }

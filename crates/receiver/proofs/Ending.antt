@@ -70,7 +70,7 @@ OnFind z (F.Ordinary c n) = 1 ≤ 0
 abbrev OnLows : ℕ → Lows → Type 0
 OnLows z (L.Broken i) = 0 ≤ 0
 OnLows z (L.End i) = 0 ≤ 0
-OnLows z (L.Gives f more i) = OnFind z f
+OnLows z (L.Gives f e more i) = OnFind z f
 
 passed-goes : (k : Kind) (h : Header) (m : Bool) (at z : ℕ) (go : ℕ → Lows) → at + 7 + h .size ≤ z → ((i : ℕ) → OnLows z (go i)) → OnLows z (andThen (passedOf k h m at) go)
 passed-goes Fill h true at z go l ih = ih (at + 7 + h .size)
@@ -132,7 +132,7 @@ module _ (r : Receiver) (tp m : List ℕ) where
   low-tells : (l : Lows) (o : ℕ) → OnLows (length tp) l → Tells tp (lowCall l r o tp m)
   low-tells (L.Broken at) o a = start-tells at (dropped wire 11 (drop at tp)) (omega arith, omega arith)
   low-tells (L.End at) o a = due-tells o at
-  low-tells (L.Gives f more at) o a = record { over = λ e. absurd (on-find (length tp) f a e); ended = λ e. absurd (on-stage more o e); within = found-in f a }
+  low-tells (L.Gives f e more at) o a = record { over = λ e. absurd (on-find (length tp) f a e); ended = λ e. absurd (on-stage more o e); within = found-in f a }
 
   payloadCall-tells : (b : Bool) (o : ℕ) → Tells tp (payloadCall b r o tp m)
   payloadCall-tells true o = low-tells (lowsOf tp 4) o (walk-goes tp 4)

@@ -17,6 +17,7 @@ use Rattle.receiver.specs.declared.walk.Gain.the-variants.{Notice}
 use Rattle.receiver.specs.declared.walk.Kept.{Kept}
 use Rattle.receiver.specs.declared.walk.Kept.the-variants.{Empty, Of}
 use Rattle.receiver.specs.declared.walk.Phase.the-variants.{Lost}
+use Rattle.receiver.specs.Low.{Tag}
 use Rattle.receiver.specs.Turns.{openedOf, stops, wholeOf}
 use Rattle.receiver.specs.InWalk.{pasted}
 use Rattle.wire.specs.declared.Read.the-variants as R
@@ -87,9 +88,9 @@ three-of (a ∷ b ∷ []) l = absurd (omega arith)
 three-of (a ∷ b ∷ c ∷ []) l = absurd (omega arith)
 three-of (a ∷ b ∷ c ∷ d ∷ tp) l = refl
 
-pub put-is : (tp : List ℕ) (at n c l : ℕ) (k : Kept) (m m′ : List ℕ) → k ≡ Of c l → at + n ≤ length tp → l + n ≤ length m
+pub put-is : (tp : List ℕ) (at n c sum l : ℕ) (k : Kept) (m m′ : List ℕ) → k ≡ Of c sum l → at + n ≤ length tp → l + n ≤ length m
     → m′ ≡ copied m l (take (at + n - at) (drop at tp)) → m′ ≡ pasted k m (drop at tp) n
-put-is tp at n c l k m m′ e h room g =
+put-is tp at n c sum l k m m′ e h room g =
     let q : at + n - at ≡ n = omega arith in
     let f = length-take-le n (drop at tp) (omega (arith, length-drop at tp)) in
     let all : min n (length m - l) ≡ n = omega arith in

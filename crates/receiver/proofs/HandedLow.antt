@@ -49,7 +49,7 @@ module _ (r : Receiver) (tp m : List ℕ) where
   lowCall-ok : (l : Lows) (o : ℕ) → LowsOk tp l → Ok (lowCall l r o tp m)
   lowCall-ok (L.Broken at) o a = start-ok at (dropped wire 11 (drop at tp)) (omega arith, omega arith)
   lowCall-ok (L.End at) o a = due-ok o at
-  lowCall-ok (L.Gives f more at) o a = a
+  lowCall-ok (L.Gives f e more at) o a = a
 
   part-ok : (o at : ℕ) → 4 ≤ at → Ok (lowCall (lowsOf tp at) r o tp m)
   unfolding lowsOf

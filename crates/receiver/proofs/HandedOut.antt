@@ -21,7 +21,7 @@ use Rattle.receiver.specs.Call.{OpenedAs}
 use Rattle.receiver.specs.Frame.{Event, Frame, lost}
 use Rattle.receiver.specs.Join.{Finding, Held, finds, free, holding, listed, low, notice, ordinary, take-in}
 use Rattle.receiver.specs.Kind.{kindOf}
-use Rattle.receiver.specs.Low.{Part, given, llep, lowPart, walk, walked, wire}
+use Rattle.receiver.specs.Low.{given, llep, lowPart, Part, Tag, walk, walked, wire}
 use Rattle.receiver.specs.Tp.{Heard, Input, Setting, Stand, behind, dropping, eventsAll, gapTold, heard, inputOf, listingAll, listingOf, lowPartIf, refusing, tpIn, worded}
 use Rattle.receiver.proofs.Listening.{Life, from-opening}
 use Rattle.receiver.proofs.OnePacket.{one-packet}
@@ -59,7 +59,7 @@ LowOnly (notice n ∷ fs) = LowOnly fs
 LowOnly (low c d ∷ fs) = LowOnly fs
 LowOnly (ordinary c d ∷ fs) = 1 ≤ 0
 
-none-among : (c : ℕ) (d : List ℕ) (fs : List (Finding wire)) → LowOnly fs → Among (ordinary c d) fs → ⊥
+none-among : (c : Tag) (d : List ℕ) (fs : List (Finding wire)) → LowOnly fs → Among (ordinary c d) fs → ⊥
 none-among c d [] l a = omega arith
 none-among c d (notice n ∷ fs) l (inl e) = let z : _≡_ {A = ℕ} 0 1 = cc in omega arith
 none-among c d (notice n ∷ fs) l (inr a) = none-among c d fs l a
@@ -144,7 +144,7 @@ module _ (room : ℕ) where
       further (inl a) ih = here (take-in wire room s e .1) refl a
       further (inr a) ih = further-on x s e es (ih a)
 
-module _ (s : Setting) (c : ℕ) (d : List ℕ) where
+module _ (s : Setting) (c : Tag) (d : List ℕ) where
   listed-from : (t : Stand) (xs : List Input) → Among (ordinary c d) (listingAll s t xs .0) → Among (ordinary c d) (finds wire (s .room) (t .held) (eventsAll s (t .frame) xs))
   listed-from t [] a = a
   listed-from t (x ∷ xs) a = outer (among-or P (h .lows ++ now′) later′ a) (listed-from (listingOf s t x .1) xs)
@@ -182,11 +182,11 @@ Read-within c d es =
     (es₁ : List (Event wire)) × ((e : Event wire) × ((es₂ : List (Event wire)) × ((es ≡ es₁ ++ e ∷ es₂) × Packet-read c d (es₁ ++ e ∷ []))))
 
 -- HANDED OUT: whatever the calls hand out as one packet, after an opening, over any TPs and told gaps
-pub handed-out : (size stream : ℕ) (m : List ℕ) (r : Receiver) (c : ℕ) (d : List ℕ) {xs : List Input} {fs : List (Finding wire)} {r′ : Receiver} {m′ : List ℕ}
-    → OpenedAs size stream (length m) (O.Ready r) → Life r m xs fs r′ m′ → Among (ordinary c d) fs
-    → Read-within c d (eventsAll (record { size = size; stream = stream; room = length m }) lost xs)
-handed-out size stream m r c d {xs} {fs} {r′} {m′} o l a =
+pub handed-out : (size stream : ℕ) (m : List ℕ) (r : Receiver) (t : Tag) (d : List ℕ) {xs : List Input} {fs : List (Finding wire)} {r′ : Receiver} {m′ : List ℕ}
+    → OpenedAs size stream (length m) (O.Ready r) → Life r m xs fs r′ m′ → Among (ordinary t d) fs
+    → Read-within (t .content) d (eventsAll (record { size = size; stream = stream; room = length m }) lost xs)
+handed-out size stream m r t d {xs} {fs} {r′} {m′} o l a =
     let s : Setting = record { size = size; stream = stream; room = length m } in
-    let b = subst (λ (fs : List (Finding wire)). Among (ordinary c d) fs) (sym (from-opening size stream m r o l)) a in
-    let (es₁, (x, (es₂, (q, g)))) = finds-from (length m) (ordinary c d) free (eventsAll s lost xs) (listed-from s c d (standing lost free) xs b) in
-    (es₁, (x, (es₂, (q, one-packet s xs es₁ x es₂ c d q g))))
+    let b = subst (λ (fs : List (Finding wire)). Among (ordinary t d) fs) (sym (from-opening size stream m r o l)) a in
+    let (es₁, (x, (es₂, (q, g)))) = finds-from (length m) (ordinary t d) free (eventsAll s lost xs) (listed-from s t d (standing lost free) xs b) in
+    (es₁, (x, (es₂, (q, one-packet s xs es₁ x es₂ t d q g))))

@@ -13,7 +13,7 @@ use Rattle.receiver.specs.declared.kind.Kind.the-variants.{Complete, Fil
 use Rattle.receiver.specs.Frame.{Event, closed, entered, opened}
 use Rattle.receiver.specs.Join.{Held, Took, admit, broken, finish, free, further, goes-on, held, holding, meets, notice, ordinary, take-in}
 use Rattle.receiver.specs.Kind.{kindOf}
-use Rattle.receiver.specs.Low.{wire}
+use Rattle.receiver.specs.Low.{beginOf, joinOf, Tag, wire}
 use Rattle.receiver.proofs.Flow.{Flow, Follows, Place, breaks, closes, enters, feeds-on, loses, next-to, opens, still}
 use Rattle.receiver.proofs.Packets.{Ends-in, Ep, Is, OnePacket, Packet-read, bytesOf, complete, feeds, first, middle, readEp, readEps, series}
 use Rattle.receiver.proofs.Tracing.{Ins, Into, Inv, Rests, alone, bytesOf-append, enters-by, feeds-by, lastly, new, onward, opens-by, readEps-append}
@@ -47,28 +47,28 @@ module _ (room : ℕ) where
     abbrev Result : ℕ → List ℕ → Type 0
     Result c d = (ps : List Ep) × OnePacket c ps × Ends-in (es ++ closed h ∷ []) ps d
 
-    module _ (c : ℕ) (d : List ℕ) (whole : length ds ≡ h .size) (same : h .content ≡ c) where
-      is : (k : Kind) → kindOf h ≡ k → Is k c This
+    module _ (t : Tag) (d : List ℕ) (whole : length ds ≡ h .size) (same : h .content ≡ t .content) where
+      is : (k : Kind) → kindOf h ≡ k → Is k (t .content) This
       is k x = record { kind = x; content = same; whole = whole }
 
-      closes-held : {k : Kind} {d₀ : List ℕ} → Into c es₀ k d₀ → kindOf h ≡ k → d ≡ d₀ ++ ds → Rests (finish wire k (held c d) .0) (es ++ closed h ∷ [])
+      closes-held : {k : Kind} {d₀ : List ℕ} → Into (t .content) es₀ k d₀ → kindOf h ≡ k → d ≡ d₀ ++ ds → Rests (finish wire k (held t d) .0) (es ++ closed h ∷ [])
       closes-held alone x f = omega arith
       closes-held new x f = (This ∷ [], first (is First x), alone-ends d f)
       closes-held {d₀ = d₀} (onward {ps = ps} b j) x f = (ps ++ This ∷ [], middle b (is Middle x), joined-ends ps d₀ d j f)
       closes-held (lastly b j) x f = omega arith
 
-      gives-held : {k : Kind} {d₀ : List ℕ} (c′ : ℕ) (d′ : List ℕ) → Into c es₀ k d₀ → kindOf h ≡ k → d ≡ d₀ ++ ds
-          → finish wire k (held c d) .1 ≡ some (ordinary c′ d′) → Result c′ d′
-      gives-held c′ d′ alone x f g =
-          let p : c ≡ c′ = cc in
+      gives-held : {k : Kind} {d₀ : List ℕ} (t′ : Tag) (d′ : List ℕ) → Into (t .content) es₀ k d₀ → kindOf h ≡ k → d ≡ d₀ ++ ds
+          → finish wire k (held t d) .1 ≡ some (ordinary t′ d′) → Result (t′ .content) d′
+      gives-held t′ d′ alone x f g =
+          let p : t ≡ t′ = cc in
           let q : d ≡ d′ = cc in
-          subst (λ (c : ℕ). Result c d′) p (subst (λ (d : List ℕ). Result c d) q (This ∷ [], complete (is Complete x), alone-ends d f))
-      gives-held c′ d′ new x f g = let z : _≡_ {A = ℕ} 0 1 = cc in absurd (omega arith)
-      gives-held c′ d′ (onward b j) x f g = let z : _≡_ {A = ℕ} 0 1 = cc in absurd (omega arith)
-      gives-held {d₀ = d₀} c′ d′ (lastly {ps = ps} b j) x f g =
-          let p : c ≡ c′ = cc in
+          subst (λ (t : Tag). Result (t .content) d′) p (subst (λ (d : List ℕ). Result (t .content) d) q (This ∷ [], complete (is Complete x), alone-ends d f))
+      gives-held t′ d′ new x f g = let z : _≡_ {A = ℕ} 0 1 = cc in absurd (omega arith)
+      gives-held t′ d′ (onward b j) x f g = let z : _≡_ {A = ℕ} 0 1 = cc in absurd (omega arith)
+      gives-held {d₀ = d₀} t′ d′ (lastly {ps = ps} b j) x f g =
+          let p : t ≡ t′ = cc in
           let q : d ≡ d′ = cc in
-          subst (λ (c : ℕ). Result c d′) p (subst (λ (d : List ℕ). Result c d) q (ps ++ This ∷ [], series b (is Last x), joined-ends ps d₀ d j f))
+          subst (λ (t : Tag). Result (t .content) d′) p (subst (λ (d : List ℕ). Result (t .content) d) q (ps ++ This ∷ [], series b (is Last x), joined-ends ps d₀ d j f))
 
   closes-free : (k : Kind) (h : Header) (es : List (Event wire)) → Rests (finish wire k free .0) es
   closes-free Fill h es = omega arith
@@ -90,7 +90,7 @@ module _ (room : ℕ) where
   follows-inv breaks s es i = omega arith
   follows-inv (opens {h = h}) s es i = (es, refl, opens-by room (kindOf h) s h es i)
   follows-inv (enters {h = h}) s es (es₀, e, m) =
-      subst (λ (l : List (Event wire)). Ins h (h .size) (admit wire room (kindOf h) s (h .content) (h .size) .0) (l ++ entered h ∷ [])) (sym e) (enters-by room (kindOf h) s h es₀ refl m)
+      subst (λ (l : List (Event wire)). Ins h (h .size) (admit wire room (kindOf h) h s .0) (l ++ entered h ∷ [])) (sym e) (enters-by room (kindOf h) s h es₀ refl m)
   follows-inv (feeds-on {h = h} {k = k} {b = b}) s es i = feeds-by room s h k b es i
   follows-inv (closes {h = h}) s es i = closes-by s h es i
 
@@ -102,23 +102,23 @@ module _ (room : ℕ) where
 
   -- only an EP's end hands out
 
-  no-fits : (b : Bool) (c : ℕ) (d : List ℕ) (c′ : ℕ) (d′ : List ℕ) → cond {A = Took wire} b (held c d, none) (free, some (notice 15)) .1 ≡ some (ordinary c′ d′) → ⊥
+  no-fits : (b : Bool) (c : Tag) (d : List ℕ) (c′ : Tag) (d′ : List ℕ) → cond {A = Took wire} b (held c d, none) (free, some (notice 15)) .1 ≡ some (ordinary c′ d′) → ⊥
   no-fits true c d c′ d′ e = let z : _≡_ {A = ℕ} 0 1 = cc in omega arith
   no-fits false c d c′ d′ e = let z : _≡_ {A = ℕ} 0 1 = cc in omega arith
 
-  no-broken : (s : Held wire) (c : ℕ) (d : List ℕ) → broken wire s .1 ≡ some (ordinary c d) → ⊥
+  no-broken : (s : Held wire) (c : Tag) (d : List ℕ) → broken wire s .1 ≡ some (ordinary c d) → ⊥
   no-broken free c d e = let z : _≡_ {A = ℕ} 0 1 = cc in omega arith
   no-broken (held x y) c d e = let z : _≡_ {A = ℕ} 0 1 = cc in omega arith
 
-  no-going : (s : Held wire) (x c : ℕ) (d : List ℕ) → goes-on wire s x .1 ≡ some (ordinary c d) → ⊥
+  no-going : (s : Held wire) (x : ℕ) (c : Tag) (d : List ℕ) → goes-on wire s x .1 ≡ some (ordinary c d) → ⊥
   no-going free x c d e = let z : _≡_ {A = ℕ} 0 1 = cc in omega arith
-  no-going (held y t) x c d e = by (eqb y x) e
+  no-going (held y t) x c d e = by (eqb (y .content) x) e
     where
       by : (b : Bool) → cond {A = Took wire} b (held y t, none) (free, some (notice 14)) .1 ≡ some (ordinary c d) → ⊥
       by true e = let z : _≡_ {A = ℕ} 0 1 = cc in omega arith
       by false e = let z : _≡_ {A = ℕ} 0 1 = cc in omega arith
 
-  no-opening : (k : Kind) (s : Held wire) (x c : ℕ) (d : List ℕ) → meets wire k s x .1 ≡ some (ordinary c d) → ⊥
+  no-opening : (k : Kind) (s : Held wire) (x : ℕ) (c : Tag) (d : List ℕ) → meets wire k s x .1 ≡ some (ordinary c d) → ⊥
   no-opening Fill s x c d e = no-broken s c d e
   no-opening Reserved s x c d e = no-broken s c d e
   no-opening Complete s x c d e = no-broken s c d e
@@ -126,19 +126,19 @@ module _ (room : ℕ) where
   no-opening Middle s x c d e = no-going s x c d e
   no-opening Last s x c d e = no-going s x c d e
 
-  no-further : (s : Held wire) (n c : ℕ) (d : List ℕ) → further wire room s n .1 ≡ some (ordinary c d) → ⊥
-  no-further free n c d e = let z : _≡_ {A = ℕ} 0 1 = cc in omega arith
-  no-further (held x t) n c d e = no-fits (leb (length t + n) room) x t c d e
+  no-further : (h : Header) (s : Held wire) (c : Tag) (d : List ℕ) → further wire room h s .1 ≡ some (ordinary c d) → ⊥
+  no-further h free c d e = let z : _≡_ {A = ℕ} 0 1 = cc in omega arith
+  no-further h (held x t) c d e = no-fits (leb (length t + h .size) room) (joinOf x h) t c d e
 
-  no-entering : (k : Kind) (s : Held wire) (x n c : ℕ) (d : List ℕ) → admit wire room k s x n .1 ≡ some (ordinary c d) → ⊥
-  no-entering Fill s x n c d e = let z : _≡_ {A = ℕ} 0 1 = cc in omega arith
-  no-entering Reserved s x n c d e = let z : _≡_ {A = ℕ} 0 1 = cc in omega arith
-  no-entering Complete s x n c d e = no-fits (leb (0 + n) room) x [] c d e
-  no-entering First s x n c d e = no-fits (leb (0 + n) room) x [] c d e
-  no-entering Middle s x n c d e = no-further s n c d e
-  no-entering Last s x n c d e = no-further s n c d e
+  no-entering : (k : Kind) (h : Header) (s : Held wire) (c : Tag) (d : List ℕ) → admit wire room k h s .1 ≡ some (ordinary c d) → ⊥
+  no-entering Fill h s c d e = let z : _≡_ {A = ℕ} 0 1 = cc in omega arith
+  no-entering Reserved h s c d e = let z : _≡_ {A = ℕ} 0 1 = cc in omega arith
+  no-entering Complete h s c d e = no-fits (leb (0 + h .size) room) (beginOf h) [] c d e
+  no-entering First h s c d e = no-fits (leb (0 + h .size) room) (beginOf h) [] c d e
+  no-entering Middle h s c d e = no-further h s c d e
+  no-entering Last h s c d e = no-further h s c d e
 
-  no-closing : (k : Kind) (c : ℕ) (d : List ℕ) → finish wire k free .1 ≡ some (ordinary c d) → ⊥
+  no-closing : (k : Kind) (c : Tag) (d : List ℕ) → finish wire k free .1 ≡ some (ordinary c d) → ⊥
   no-closing Fill c d e = let z : _≡_ {A = ℕ} 0 1 = cc in omega arith
   no-closing Reserved c d e = let z : _≡_ {A = ℕ} 0 1 = cc in omega arith
   no-closing Complete c d e = let z : _≡_ {A = ℕ} 0 1 = cc in omega arith
@@ -146,12 +146,12 @@ module _ (room : ℕ) where
   no-closing Middle c d e = let z : _≡_ {A = ℕ} 0 1 = cc in omega arith
   no-closing Last c d e = let z : _≡_ {A = ℕ} 0 1 = cc in omega arith
 
-  pub follows-gives : {p q : Place} {e : Event wire} → Follows p e q → (s : Held wire) (es : List (Event wire)) → Inv p s es → (c : ℕ) (d : List ℕ)
-      → take-in wire room s e .1 ≡ some (ordinary c d) → Packet-read c d (es ++ e ∷ [])
+  pub follows-gives : {p q : Place} {e : Event wire} → Follows p e q → (s : Held wire) (es : List (Event wire)) → Inv p s es → (c : Tag) (d : List ℕ)
+      → take-in wire room s e .1 ≡ some (ordinary c d) → Packet-read (c .content) d (es ++ e ∷ [])
   follows-gives loses s es i c d g = let z : _≡_ {A = ℕ} 0 1 = cc in absurd (omega arith)
   follows-gives breaks s es i c d g = let z : _≡_ {A = ℕ} 0 1 = cc in absurd (omega arith)
   follows-gives (opens {h = h}) s es i c d g = absurd (no-opening (kindOf h) s (h .content) c d g)
-  follows-gives (enters {h = h}) s es i c d g = absurd (no-entering (kindOf h) s (h .content) (h .size) c d g)
+  follows-gives (enters {h = h}) s es i c d g = absurd (no-entering (kindOf h) h s c d g)
   follows-gives feeds-on s es i c d g = let z : _≡_ {A = ℕ} 0 1 = cc in absurd (omega arith)
   follows-gives (closes {h = h}) free es i c d g = absurd (no-closing (kindOf h) c d g)
   follows-gives (closes {h = h}) (held x t) es i c d g =

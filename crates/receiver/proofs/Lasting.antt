@@ -94,7 +94,7 @@ module _ (r : Receiver) (tp m : List ℕ) where
   low-lasts : (l : Lows) (o : ℕ) → Lasts r m (lowCall l r o tp m)
   low-lasts (L.Broken at) o = start-lasts at (dropped wire 11 (drop at tp))
   low-lasts (L.End at) o = due-lasts o at
-  low-lasts (L.Gives f more at) o = record { size = refl; stream = refl; limit = refl; room = refl }
+  low-lasts (L.Gives f e more at) o = record { size = refl; stream = refl; limit = refl; room = refl }
 
   payloadCall-lasts : (b : Bool) (o : ℕ) → Lasts r m (payloadCall b r o tp m)
   payloadCall-lasts true o = low-lasts (lowsOf tp 4) o

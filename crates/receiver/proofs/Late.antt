@@ -14,9 +14,9 @@ use Rattle.receiver.specs.declared.walk.Phase.{Phase}
 use Rattle.receiver.specs.declared.walk.Phase.the-variants.{Body, Head, Judged, Lost}
 use Rattle.receiver.specs.Forecast.{Start, agree, dropped, foretold, judge, outset, start}
 use Rattle.receiver.specs.Frame.{Event, Frame, body, closed, ending, entered, fed, gap, head, idle, lose, lost, opened, step, whole}
-use Rattle.receiver.specs.Join.{Finding, Held, Took, admit, broken, finish, free, further, goes-on, handed, held, low, meets, notice, ordinary, stored, take-in}
+use Rattle.receiver.specs.Join.{Finding, Held, Took, admit, broken, finish, fits, free, further, goes-on, handed, held, low, meets, notice, ordinary, stored, take-in}
 use Rattle.receiver.specs.Kind.{kindOf}
-use Rattle.receiver.specs.Low.{wire}
+use Rattle.receiver.specs.Low.{beginOf, joinOf, wire}
 use Rattle.receiver.specs.Pull.{Met, Pulled, dry, found, meet, met, pull, reads, upto}
 use Rattle.receiver.specs.State.{todoOf}
 
@@ -48,7 +48,7 @@ either-late false s n l = l
 
 going-late : (s : Held wire) (c : ℕ) → LateFind (goes-on wire s c .1)
 going-late free c = omega arith
-going-late (held x d) c = either-late (eqb x c) (held x d) 14 (omega arith)
+going-late (held x d) c = either-late (eqb (x .content) c) (held x d) 14 (omega arith)
 
 meets-late : (k : Kind) (s : Held wire) (c : ℕ) → LateFind (meets wire k s c .1)
 meets-late Fill s c = broken-late s
@@ -71,23 +71,26 @@ finish-late Middle s = omega arith
 finish-late Last s = handed-late s
 
 module _ (cap : ℕ) where
-  further-late : (s : Held wire) (n : ℕ) → LateFind (further wire cap s n .1)
-  further-late free n = omega arith
-  further-late (held c d) n = either-late (leb (length d + n) cap) (held c d) 15 (omega arith)
+  further-late : (h : Header) (s : Held wire) → LateFind (further wire cap h s .1)
+  further-late h free = omega arith
+  further-late h (held c d) = either-late (leb (length d + h .size) cap) (held (joinOf c h) d) 15 (omega arith)
 
-  admit-late : (k : Kind) (s : Held wire) (c n : ℕ) → LateFind (admit wire cap k s c n .1)
-  admit-late Fill s c n = omega arith
-  admit-late Reserved s c n = omega arith
-  admit-late Complete s c n = either-late (leb (0 + n) cap) (held c []) 15 (omega arith)
-  admit-late First s c n = either-late (leb (0 + n) cap) (held c []) 15 (omega arith)
-  admit-late Middle s c n = further-late s n
-  admit-late Last s c n = further-late s n
+  begun-late : (h : Header) → LateFind (fits wire cap (h .size) (beginOf h) [] .1)
+  begun-late h = either-late (leb (0 + h .size) cap) (held (beginOf h) []) 15 (omega arith)
+
+  admit-late : (k : Kind) (h : Header) (s : Held wire) → LateFind (admit wire cap k h s .1)
+  admit-late Fill h s = omega arith
+  admit-late Reserved h s = omega arith
+  admit-late Complete h s = begun-late h
+  admit-late First h s = begun-late h
+  admit-late Middle h s = further-late h s
+  admit-late Last h s = further-late h s
 
   take-late : (s : Held wire) (e : Event wire) → Late e → LateFind (take-in wire cap s e .1)
   take-late s (lose n) l = l
   take-late s gap l = omega arith
   take-late s (opened h) l = meets-late (kindOf h) s (h .content)
-  take-late s (entered h) l = admit-late (kindOf h) s (h .content) (h .size)
+  take-late s (entered h) l = admit-late (kindOf h) h s
   take-late s (fed b) l = omega arith
   take-late s (closed h) l = finish-late (kindOf h) s
 

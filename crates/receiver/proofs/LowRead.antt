@@ -1,5 +1,5 @@
 -- What the walk over the low-latency part hands out is the data of one whole LLEP. Assumes nothing.
-use mathlib.Core.Path.{ap, refl, subst, _∙_, _≡_}
+use mathlib.Core.Path.{ap, refl, subst, sym, _∙_, _≡_}
 use mathlib.Core.Logic.{inl, inr, _⊎_}
 use mathlib.Core.Bool.{Bool, cond, false, true}
 use mathlib.Core.Option.{Option, none, some}
@@ -24,7 +24,7 @@ use Rattle.receiver.specs.declared.low.Llep.the-variants.{Broken, Whole}
 use Rattle.receiver.specs.declared.low.Lows.{Lows}
 use Rattle.receiver.specs.Forecast.{start}
 use Rattle.receiver.specs.Kind.{kindBy, kindOf, pieceOf}
-use Rattle.receiver.specs.Low.{begins, ended, llep, sized}
+use Rattle.receiver.specs.Low.{begins, counting, ended, endsBy, llep, sized}
 use Rattle.receiver.specs.Lows.{andThen, lows, oneOf, passedOf}
 use Rattle.receiver.proofs.Walking.{broken-else, inside-at}
 use Rattle.wire.specs.declared.Sort.the-variants as S
@@ -67,17 +67,24 @@ ended-well b Zeros g h m q e = (cc, inl q)
 ended-well b Ones g h m q e = (cc, inr q)
 ended-well b Neither g h m q e = (cc, inl cc)
 
-begins-read : (o : Option Header) (bs : List ℕ) (h : Header) (m : Bool) → begins o bs ≡ Whole h m → (o ≡ some h) × Ends-well (getD bs (6 + h .size) 0)
-unfolding sized
-begins-read none bs h m e = (cc, inl cc)
-begins-read (some g) bs h m e =
-    let b = getD bs (6 + g .size) 0 in
-    let t = ended-well b (endOf b) g h m refl (broken-else (ltb (length bs) (7 + g .size)) (ended (endOf b) g) h m e .1) in
-    (ap (λ (h : Header). some h) (t .0), subst (λ (h : Header). Ends-well (getD bs (6 + h .size) 0)) (t .0) (t .1))
+-- the header as it is read, with which the flips of the end byte are counted
+pub record Read-as (bs : List ℕ) (h : Header) : Type 0 where
+  pub read : Header
+  pub header : headerOf (take 6 bs) ≡ some read
+  pub counted : h ≡ counting (getD bs (6 + read .size) 0) read
+  pub ended : Ends-well (getD bs (6 + read .size) 0)
 
-llep-read : (bs : List ℕ) (h : Header) (m : Bool) → llep bs ≡ Whole h m → (headerOf (take 6 bs) ≡ some h) × Ends-well (getD bs (6 + h .size) 0)
+begins-read : (o : Option Header) (bs : List ℕ) (h : Header) (m : Bool) → headerOf (take 6 bs) ≡ o → begins o bs ≡ Whole h m → Read-as bs h
+unfolding sized
+begins-read none bs h m q e = let z : _≡_ {A = ℕ} 0 1 = cc in absurd (omega arith)
+begins-read (some g) bs h m q e =
+    let b = getD bs (6 + g .size) 0 in
+    let t = ended-well b (endOf b) (counting b g) h m refl (broken-else (ltb (length bs) (7 + g .size)) (endsBy b g) h m e .1) in
+    record { read = g; header = q; counted = sym (t .0); ended = t .1 }
+
+llep-read : (bs : List ℕ) (h : Header) (m : Bool) → llep bs ≡ Whole h m → Read-as bs h
 unfolding llep
-llep-read bs h m e = begins-read (headerOf (take 6 bs)) bs h m (broken-else (ltb (length bs) 7) (begins (headerOf (take 6 bs)) bs) h m e .1)
+llep-read bs h m e = begins-read (headerOf (take 6 bs)) bs h m refl (broken-else (ltb (length bs) 7) (begins (headerOf (take 6 bs)) bs) h m e .1)
 
 piece-complete : (f : ℕ) → pieceOf f Complete First ≡ Complete → f ≡ 0
 unfolding pieceOf
@@ -126,7 +133,7 @@ complete-known h e = kind-known (sortOf (h .content)) (h .fragment) (h .content)
 abbrev pub LowsOk : List ℕ → Lows → Type 0
 LowsOk tp (L.Broken i) = 0 ≤ 0
 LowsOk tp (L.End i) = 0 ≤ 0
-LowsOk tp (L.Gives f more i) = LowOk tp f
+LowsOk tp (L.Gives f e more i) = LowOk tp f
 
 passed-ok : (tp : List ℕ) (k : Kind) (h : Header) (m : Bool) (at : ℕ) (go : ℕ → Lows) → kindOf h ≡ k → 4 ≤ at → llep (drop at tp) ≡ Whole h m
     → ((i : ℕ) → 4 ≤ i → LowsOk tp (go i)) → LowsOk tp (andThen (passedOf k h m at) go)
@@ -135,18 +142,23 @@ passed-ok tp Fill h false at go q b e ih = omega arith
 passed-ok tp Reserved h m at go q b e ih = omega arith
 passed-ok tp Complete h m at go q b e ih =
     let r = llep-read (drop at tp) h m e in
+    let g = r .read in
     let k = complete-known h q in
-    let i : at + (6 + h .size) ≡ at + 6 + h .size = omega arith in
-    let z : getD (drop at tp) (6 + h .size) 0 ≡ getD tp (at + 6 + h .size) 0 = getD-drop at tp (6 + h .size) 0 ∙ ap (λ (i : ℕ). getD tp i 0) i in
-    let l : Whole-llep tp at h = record {
+    let c : h .content ≡ g .content = ap (λ (h : Header). h .content) (r .counted) in
+    let f : h .fragment ≡ g .fragment = ap (λ (h : Header). h .fragment) (r .counted) in
+    let n : h .size ≡ g .size = ap (λ (h : Header). h .size) (r .counted) in
+    let i : at + (6 + g .size) ≡ at + 6 + g .size = omega arith in
+    let z : getD (drop at tp) (6 + g .size) 0 ≡ getD tp (at + 6 + g .size) 0 = getD-drop at tp (6 + g .size) 0 ∙ ap (λ (i : ℕ). getD tp i 0) i in
+    let x = inside-at tp at h m e in
+    let l : Whole-llep tp at g = record {
       payload = b;
-      inside = inside-at tp at h m e;
-      header = r .0;
-      complete = k .0;
-      known = k .1;
-      ended = subst Ends-well z (r .1);
+      inside = omega arith;
+      header = r .header;
+      complete = sym f ∙ k .0;
+      known = subst (λ (c : ℕ). (1 ≤ c) × (c ≤ 6)) c (k .1);
+      ended = subst Ends-well z (r .ended);
     } in
-    (at, (h, record { llep = l; content = refl; place = refl; size = refl }))
+    (at, (g, record { llep = l; content = c; place = refl; size = n }))
 passed-ok tp First h m at go q b e ih = omega arith
 passed-ok tp Middle h m at go q b e ih = omega arith
 passed-ok tp Last h m at go q b e ih = omega arith

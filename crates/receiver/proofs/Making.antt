@@ -10,6 +10,7 @@ use lib.ListN.{drop, length}
 use borrow.Author.Tests.{eq-eqb, eqb-false, eqb-true}
 use Rattle.wire.specs.declared.Header.{Header}
 use Rattle.receiver.specs.declared.Find.the-variants as F
+use Rattle.receiver.specs.declared.About.{About}
 use Rattle.receiver.specs.declared.Receiver.{Receiver}
 use Rattle.receiver.specs.declared.Piece.{Piece}
 use Rattle.receiver.specs.declared.Stage.{Stage}
@@ -38,10 +39,10 @@ use Rattle.receiver.specs.Forecast.{outset}
 use Rattle.receiver.specs.Join.{ordinary}
 use Rattle.receiver.specs.Kind.{kindOf}
 use Rattle.receiver.specs.Low.{llep}
-use Rattle.receiver.specs.Lows.{andThen, lows, lowsOf, oneOf, passedBy, toldOf}
+use Rattle.receiver.specs.Lows.{andThen, lows, lowsOf, oneOf, passedBy, repairedOf, toldOf}
 use Rattle.receiver.specs.Turns.{advanceOf}
 use Rattle.receiver.specs.Outset.{placeOf, setOutOf, uponOf}
-use Rattle.receiver.specs.Pieces.{dueTurn, llepTurn, outTurn, ordinaryTurn, sameTurn, stageTurn, topTurn, turnOf, stepOf, topOf}
+use Rattle.receiver.specs.Pieces.{dueTurn, llepTurn, ordinaryTurn, outTurn, sameOf, sameTurn, stageTurn, stepOf, topOf, topTurn, turnOf}
 use Rattle.receiver.specs.Turn.{Makes, putOf}
 use Rattle.receiver.specs.InWalk.{Carries, roomOf}
 use Rattle.receiver.specs.InStages.{Leads, Lent, Onward}
@@ -66,12 +67,12 @@ pub record Goes (g : Stage) (gave : Gave) (r : Receiver) (tp m : List ℕ) (q : 
   pub limit : q .limit ≡ r .limit
   pub room : length m′ ≡ length m
 
-abbrev pub Made : Told → Stage → Gave → Receiver → List ℕ → List ℕ → Receiver → List ℕ → Type 0
-Made T.More g gave r tp m q m′ = Goes g gave r tp m q m′
-Made (T.Gives f) g gave r tp m q m′ = Gives gave (record { receiver = q; find = f }) tp m′
+abbrev pub Made : Told → About → Stage → Gave → Receiver → List ℕ → List ℕ → Receiver → List ℕ → Type 0
+Made T.More a g gave r tp m q m′ = Goes g gave r tp m q m′
+Made (T.Gives f) a g gave r tp m q m′ = Gives gave (record { receiver = q; find = f; about = a }) tp m′
 
 abbrev pub MadeBy : D.Turned → Stage → Gave → Receiver → List ℕ → List ℕ → Type 0
-MadeBy t g gave r tp m = Made (t .told) g gave r tp m (t .receiver) (putOf (t .piece) tp m)
+MadeBy t g gave r tp m = Made (t .told) (t .about) g gave r tp m (t .receiver) (putOf (t .piece) tp m)
 
 low-staged : (more : Bool) (o : ℕ) (w : Walk) → o < 2048 → 4 ≤ w .at → Settled (w .phase) → Staged (cond more (Low o) (Due o)) w
 low-staged true o w l b s = (l, b, s)
@@ -103,7 +104,7 @@ module _ (r : Receiver) (tp m : List ℕ) (able : Able r) (whole : length tp ≡
     at = r .walk .at
 
     kind-made : (k : Kind) (h : Header) (more : Bool) → at + 7 + h .size ≤ length tp
-        → Made (toldOf k h at) (Low o) (lowCall (andThen (passedBy (toldOf k h at) more (at + 7 + h .size)) (λ i. lows (length tp) tp i)) r o tp m) r tp m
+        → Made (toldOf k h at) (record { repaired = repairedOf k h }) (Low o) (lowCall (andThen (passedBy (toldOf k h at) (repairedOf k h) more (at + 7 + h .size)) (λ i. lows (length tp) tp i)) r o tp m) r tp m
         (on r (cond more (Low o) (Due o)) (at + 7 + h .size) o tp m) m
     unfolding lowsOf
     kind-made K.Fill h more l = record {
@@ -115,16 +116,16 @@ module _ (r : Receiver) (tp m : List ℕ) (able : Able r) (whole : length tp ≡
     }
       where
         same : (more : Bool) → stageCall (cond more (Low o) (Due o)) (on r (cond more (Low o) (Due o)) (at + 7 + h .size) o tp m) tp m
-            ≡ lowCall (andThen (passedBy T.More more (at + 7 + h .size)) (λ i. lows (length tp) tp i)) r o tp m
+            ≡ lowCall (andThen (passedBy T.More 0 more (at + 7 + h .size)) (λ i. lows (length tp) tp i)) r o tp m
         same true =
             low-same r (Low o) (at + 7 + h .size) o tp m (lowsOf tp (at + 7 + h .size))
             ∙ ap (λ (x : Lows). lowCall x r o tp m) (lows-free (suc (length tp)) (length tp) tp (at + 7 + h .size) (omega arith) (omega arith))
         same false = due-same r (Due o) (at + 7 + h .size) o tp m (at + 7 + h .size)
-    kind-made K.Complete h more l = low-gives r tp m (able .size) whole full o (F.Low (h .content) (at + 6) (h .size)) more (at + 7 + h .size) at (z .0) (omega (arith, z .1)) l (able .walk) (z .2)
-    kind-made K.Reserved h more l = low-gives r tp m (able .size) whole full o (F.Notice 16) more (at + 7 + h .size) at (z .0) (omega (arith, z .1)) l (able .walk) (z .2)
-    kind-made K.First h more l = low-gives r tp m (able .size) whole full o (F.Notice 16) more (at + 7 + h .size) at (z .0) (omega (arith, z .1)) l (able .walk) (z .2)
-    kind-made K.Middle h more l = low-gives r tp m (able .size) whole full o (F.Notice 16) more (at + 7 + h .size) at (z .0) (omega (arith, z .1)) l (able .walk) (z .2)
-    kind-made K.Last h more l = low-gives r tp m (able .size) whole full o (F.Notice 16) more (at + 7 + h .size) at (z .0) (omega (arith, z .1)) l (able .walk) (z .2)
+    kind-made K.Complete h more l = low-gives r tp m (able .size) whole full o (F.Low (h .content) (at + 6) (h .size)) (h .flips) more (at + 7 + h .size) at (z .0) (omega (arith, z .1)) l (able .walk) (z .2)
+    kind-made K.Reserved h more l = low-gives r tp m (able .size) whole full o (F.Notice 16) 0 more (at + 7 + h .size) at (z .0) (omega (arith, z .1)) l (able .walk) (z .2)
+    kind-made K.First h more l = low-gives r tp m (able .size) whole full o (F.Notice 16) 0 more (at + 7 + h .size) at (z .0) (omega (arith, z .1)) l (able .walk) (z .2)
+    kind-made K.Middle h more l = low-gives r tp m (able .size) whole full o (F.Notice 16) 0 more (at + 7 + h .size) at (z .0) (omega (arith, z .1)) l (able .walk) (z .2)
+    kind-made K.Last h more l = low-gives r tp m (able .size) whole full o (F.Notice 16) 0 more (at + 7 + h .size) at (z .0) (omega (arith, z .1)) l (able .walk) (z .2)
 
     llep-by : (l : Llep) → llep (drop at tp) ≡ l → MadeBy (llepTurn l r o (length tp)) (Low o) (lowCall (andThen (oneOf l at) (λ i. lows (length tp) tp i)) r o tp m) r tp m
     unfolding putOf
@@ -172,7 +173,7 @@ module _ (r : Receiver) (tp m : List ℕ) (able : Able r) (whole : length tp ≡
     w = r .walk
 
     plain-by : (t : Turn) (m′ : List ℕ) → Carries (length m) w tp m t m′ → length m′ ≡ length m
-        → Made (ordinaryTurn t r .told) Plain (ordinaryCall r (pullOf (length m) w tp m)) r tp m (ordinaryTurn t r .receiver) m′
+        → Made (ordinaryTurn t r .told) (ordinaryTurn t r .about) Plain (ordinaryCall r (pullOf (length m) w tp m)) r tp m (ordinaryTurn t r .receiver) m′
     unfolding Carries
     plain-by (More x) m′ t l = record {
       same = ordinaryCall-same r Plain x (pullOf (length m′) x tp m′) ∙ ap (λ (n : ℕ). ordinaryCall r (pullOf n x tp m′)) l ∙ ap (ordinaryCall r) (t .same);
@@ -192,7 +193,7 @@ module _ (r : Receiver) (tp m : List ℕ) (able : Able r) (whole : length tp ≡
         let t = advanceOf (r .limit) w tp in
         let d = subst (λ (n : ℕ). Carries n w tp m t (roomOf w tp m)) (sym full) (advance-carries (r .limit) tp m full bytes w sound) in
         let e = ap (λ (p : Piece). putOf p tp m) (piece-of r t) ∙ put-room (r .limit) w tp m in
-        subst (λ (m′ : List ℕ). Made (ordinaryTurn t r .told) Plain (ordinaryCall r (pullOf (length m) w tp m)) r tp m (ordinaryTurn t r .receiver) m′) (sym e)
+        subst (λ (m′ : List ℕ). Made (ordinaryTurn t r .told) (ordinaryTurn t r .about) Plain (ordinaryCall r (pullOf (length m) w tp m)) r tp m (ordinaryTurn t r .receiver) m′) (sym e)
         (plain-by t (roomOf w tp m) d (room-length (r .limit) w tp m full sound ∙ sym full))
 
     pub stage-made : (g : Stage) → Staged g (r .walk) → MadeBy (stageTurn g r tp) g (stageCall g r tp m) r tp m
@@ -209,22 +210,22 @@ unfolding callOf
 call-staged r tp m f w = rw (eq-eqb (length m) (r .limit) f, eq-eqb (length tp) (r .size) w)
 
 module _ (r : Receiver) (tp m : List ℕ) (whole : length tp ≡ r .size) (full : length m ≡ r .limit) where
-  makes-by : (t : Told) (q : Receiver) (m′ : List ℕ) → Made t (r .stage) (stageCall (r .stage) r tp m) r tp m q m′ → Makes t r tp m q m′
-  makes-by T.More q m′ d = (d .room ∙ full ∙ sym (d .limit), sym (call-staged q tp m′ (d .room ∙ full ∙ sym (d .limit)) (whole ∙ sym (d .size))) ∙ d .same ∙ call-staged r tp m full whole)
-  makes-by (T.Gives f) q m′ d = subst (λ (x : Gave). Gives x (record { receiver = q; find = f }) tp m′) (call-staged r tp m full whole) d
+  makes-by : (t : Told) (a : About) (q : Receiver) (m′ : List ℕ) → Made t a (r .stage) (stageCall (r .stage) r tp m) r tp m q m′ → Makes t a r tp m q m′
+  makes-by T.More a q m′ d = (d .room ∙ full ∙ sym (d .limit), sym (call-staged q tp m′ (d .room ∙ full ∙ sym (d .limit)) (whole ∙ sym (d .size))) ∙ d .same ∙ call-staged r tp m full whole)
+  makes-by (T.Gives f) a q m′ d = subst (λ (x : Gave). Gives x (record { receiver = q; find = f; about = a }) tp m′) (call-staged r tp m full whole) d
 
-pub able-by : (t : Told) (g : Stage) (x : Gave) (r : Receiver) (tp m : List ℕ) (q : Receiver) (m′ : List ℕ) → Made t g x r tp m q m′ → Able q
-able-by T.More g x r tp m q m′ d = d .able
-able-by (T.Gives f) g x r tp m q m′ d = d .able
+pub able-by : (t : Told) (a : About) (g : Stage) (x : Gave) (r : Receiver) (tp m : List ℕ) (q : Receiver) (m′ : List ℕ) → Made t a g x r tp m q m′ → Able q
+able-by T.More a g x r tp m q m′ d = d .able
+able-by (T.Gives f) a g x r tp m q m′ d = d .able
 
 -- THE TURNS MAKE THE CALL
 pub turn-makes : (r : Receiver) (tp m : List ℕ) → Able r → Bytes tp → length m ≡ r .limit
-    → Makes (turnOf r tp .told) r tp m (turnOf r tp .receiver) (putOf (turnOf r tp .piece) tp m)
+    → Makes (turnOf r tp .told) (turnOf r tp .about) r tp m (turnOf r tp .receiver) (putOf (turnOf r tp .piece) tp m)
 unfolding turnOf putOf
 turn-makes r tp m a b f = by (eqb (length tp) (r .size)) refl
   where
     by : (x : Bool) → eqb (length tp) (r .size) ≡ x
-        → Makes (cond {A = D.Turned} x (stageTurn (r .stage) r tp) (sameTurn r 6) .told) r tp m (cond {A = D.Turned} x (stageTurn (r .stage) r tp) (sameTurn r 6) .receiver)
+        → Makes (cond {A = D.Turned} x (stageTurn (r .stage) r tp) (sameTurn r 6) .told) (cond {A = D.Turned} x (stageTurn (r .stage) r tp) (sameTurn r 6) .about) r tp m (cond {A = D.Turned} x (stageTurn (r .stage) r tp) (sameTurn r 6) .receiver)
         (putOf (cond {A = D.Turned} x (stageTurn (r .stage) r tp) (sameTurn r 6) .piece) tp m)
-    by true e = let w = eqb-true (length tp) (r .size) e in makes-by r tp m w f (stageTurn (r .stage) r tp .told) (stageTurn (r .stage) r tp .receiver) _ (stage-made r tp m a w f b (r .stage) (a .stage))
-    by false e = call-six r tp m (record { receiver = r; find = F.Notice 6 }) m f (eqb-false (length tp) (r .size) e) (same-gives r tp m 6 a)
+    by true e = let w = eqb-true (length tp) (r .size) e in makes-by r tp m w f (stageTurn (r .stage) r tp .told) (stageTurn (r .stage) r tp .about) (stageTurn (r .stage) r tp .receiver) _ (stage-made r tp m a w f b (r .stage) (a .stage))
+    by false e = call-six r tp m (sameOf r (F.Notice 6)) m f (eqb-false (length tp) (r .size) e) (same-gives r tp m 6 a)

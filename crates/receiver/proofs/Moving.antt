@@ -62,4 +62,4 @@ module _ (r : Receiver) (s : Stage) (at o : ℕ) (tp m : List ℕ) where
   pub low-same : (x : Lows) → lowCall x on o tp m ≡ lowCall x r o tp m
   low-same (L.Broken i) = ordinaryCall-same r s (walkTo r at) (from (length m) (dropped wire 11 (drop i tp)) (walkTo r i) tp m)
   low-same (L.End i) = due-same i
-  low-same (L.Gives f more i) = refl
+  low-same (L.Gives f e more i) = refl

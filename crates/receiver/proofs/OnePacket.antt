@@ -7,7 +7,7 @@ use Prim.Native.Nat.{ℕ}
 use native.Mathlib.Omega.{arith}
 use Rattle.receiver.specs.Frame.{Event, lost}
 use Rattle.receiver.specs.Join.{free, holding, ordinary, take-in}
-use Rattle.receiver.specs.Low.{wire}
+use Rattle.receiver.specs.Low.{Tag, wire}
 use Rattle.receiver.specs.Tp.{Input, Setting, eventsAll}
 use Rattle.receiver.proofs.Flow.{Flow, Follows, Place, all-flow, apart, next-to, still}
 use Rattle.receiver.proofs.Handing.{flow-inv, follows-gives}
@@ -22,13 +22,13 @@ split-flow e fs (a ∷ es) (next-to x f) = let r = split-flow e fs es f in (r .0
 -- THE SENTENCE: listening from out of step to any TPs and gaps, if the event e hands out a packet, then the events up to e
 -- end in the reading of a complete EP, or of a first, middles and a last, all whole, all of its content, one right behind the
 -- other; and its data are theirs
-pub one-packet : (s : Setting) (xs : List Input) (es : List (Event wire)) (e : Event wire) (fs : List (Event wire)) (c : ℕ) (d : List ℕ)
+pub one-packet : (s : Setting) (xs : List Input) (es : List (Event wire)) (e : Event wire) (fs : List (Event wire)) (t : Tag) (d : List ℕ)
     → eventsAll s lost xs ≡ es ++ e ∷ fs
-    → take-in wire (s .room) (holding wire (s .room) free es) e .1 ≡ some (ordinary c d)
-    → Packet-read c d (es ++ e ∷ [])
-one-packet s xs es e fs c d q g =
+    → take-in wire (s .room) (holding wire (s .room) free es) e .1 ≡ some (ordinary t d)
+    → Packet-read (t .content) d (es ++ e ∷ [])
+one-packet s xs es e fs t d q g =
     let a = all-flow s lost xs in
     let f : Flow apart (es ++ e ∷ fs) (a .0) = subst (λ (l : List (Event wire)). Flow apart l (a .0)) q (a .1) in
-    let t = split-flow e fs es f in
-    let i : Inv (t .0) (holding wire (s .room) free es) es = flow-inv (s .room) (t .1 .1 .0) free [] (omega arith) in
-    follows-gives (s .room) (t .1 .1 .1) (holding wire (s .room) free es) es i c d g
+    let x = split-flow e fs es f in
+    let i : Inv (x .0) (holding wire (s .room) free es) es = flow-inv (s .room) (x .1 .1 .0) free [] (omega arith) in
+    follows-gives (s .room) (x .1 .1 .1) (holding wire (s .room) free es) es i t d g

@@ -38,8 +38,8 @@ use Rattle.receiver.specs.InStages.{Lent}
 use Rattle.receiver.specs.InWalk.{roomOf}
 use Rattle.receiver.specs.Join.{finds, low}
 use Rattle.receiver.specs.Kind.{kindOf}
-use Rattle.receiver.specs.Low.{given, llep, wire}
-use Rattle.receiver.specs.Lows.{toldOf}
+use Rattle.receiver.specs.Low.{beginOf, given, llep, wire}
+use Rattle.receiver.specs.Lows.{repairedOf, toldOf}
 use Rattle.receiver.specs.Outset.{foreOf, outBy, placeOf, setOutOf, uponOf}
 use Rattle.receiver.specs.Pieces.{dueTurn, gaveOf, llepTurn, ordinaryTurn, outTurn, readOf, sameTurn, stageTurn, tellOf, topOf, topTurn, turnOf}
 use Rattle.receiver.specs.State.{Able, Settled, Sound, Staged, frameOf, todoOf}
@@ -79,10 +79,10 @@ module _ (r : Receiver) (tp m : List ℕ) where
     abbrev at : ℕ
     at = r .walk .at
 
-    kind-told : (k : Kind) (h : Header) → given k h (take (at + 7 + h .size - at) (drop at tp)) ++ [] ≡ tells (toldOf k h at) tp m
+    kind-told : (k : Kind) (h : Header) → given k h (take (at + 7 + h .size - at) (drop at tp)) ++ [] ≡ tells (toldOf k h at) (repairedOf k h) tp m
     kind-told K.Fill h = refl
     kind-told K.Complete h =
-        ap (λ (d : List ℕ). low (h .content) d ∷ []) (own-data (h .size) 6 (at + 7 + h .size - at) (drop at tp) (omega arith) ∙ ap (take (h .size)) (drop-drop 6 at tp))
+        ap (λ (d : List ℕ). low (beginOf h) d ∷ []) (own-data (h .size) 6 (at + 7 + h .size - at) (drop at tp) (omega arith) ∙ ap (take (h .size)) (drop-drop 6 at tp))
     kind-told K.Reserved h = refl
     kind-told K.First h = refl
     kind-told K.Middle h = refl
@@ -154,7 +154,7 @@ module _ (r : Receiver) (tp m : List ℕ) where
           → Takes (stageBrings Plain r tp (ownOf (readOf (r .walk) (a .walk)) tp)) r tp m (gaveOf (tellOf g r (a .walk)) (readOf (r .walk) (a .walk))) m′
       by G.Nothing b = record { taken = b .taken; frame = b .frame; told = b .told; held = b .held; finds = b .finds }
       by (G.Notice n) b = record { taken = b .taken; frame = b .frame; told = b .told; held = b .held; finds = b .finds }
-      by (G.Packet c n) b = record { taken = b .taken; frame = b .frame; told = b .told; held = b .held; finds = b .finds }
+      by (G.Packet c sum n) b = record { taken = b .taken; frame = b .frame; told = b .told; held = b .held; finds = b .finds }
 
 abbrev TakesOf : Heard → Receiver → List ℕ → List ℕ → Turned → Type 0
 TakesOf h r tp m q = Takes h r tp m q (putOf (q .piece) tp m)

@@ -23,7 +23,7 @@ use Rattle.receiver.specs.Forecast.{Start, dropped, outset, start}
 use Rattle.receiver.specs.Low.{wire}
 use Rattle.receiver.specs.Lows.{lowsOf}
 use Rattle.receiver.specs.Outset.{placeOf, setOutOf, uponOf}
-use Rattle.receiver.specs.Pieces.{stepOf}
+use Rattle.receiver.specs.Pieces.{stepOf, stepWith}
 use Rattle.receiver.specs.InOutset.{ReadsOn, SetsOut, setOut}
 use Rattle.receiver.specs.InStages.{Leads, Lent, partCall, setCall}
 use Rattle.receiver.specs.State.{Sound, frameOf}
@@ -157,12 +157,12 @@ module _ (r : Receiver) (low : Bool) (o at : ℕ) (tp : List ℕ) (l : Lent r at
   pub part-due : (q : Course) (i : ℕ) → walked ≡ L.End i → Leads (dueCall r o i tp) r tp q → Leads (partCall low r o at tp) r tp q
   part-due q i e g = part-by q (L.End i) (dueCall r o i tp) e (λ m. refl) g
 
-  pub part-gives : (f : Find) (more : Bool) (i : ℕ) → o < 2048 → walked ≡ L.Gives f more i
-      → Leads (partCall low r o at tp) r tp (C.Gives (stepOf r (cond more (Low o) (Due o)) i (r .walk .phase) (r .walk .kept) f))
+  pub part-gives : (f : Find) (t : ℕ) (more : Bool) (i : ℕ) → o < 2048 → walked ≡ L.Gives f t more i
+      → Leads (partCall low r o at tp) r tp (C.Gives (stepWith r (cond more (Low o) (Due o)) i (r .walk .phase) (r .walk .kept) f t))
   unfolding Leads
-  part-gives f more i s e =
-      let b = low-in low tp at (L.Gives f more i) (lent-in r at tp l) e in
+  part-gives f t more i s e =
+      let b = low-in low tp at (L.Gives f t more i) (lent-in r at tp l) e in
       let p = l .payload in
-      let q = stepOf r (cond more (Low o) (Due o)) i (r .walk .phase) (r .walk .kept) f in
-      part-by (C.Gives q) (L.Gives f more i) (lowCall (L.Gives f more i) r o tp) e (λ m. refl)
-      (λ m u. low-gives r tp m (l .size) (l .whole) u o f more i at s (omega arith) (b .1) (l .walk) (l .settled))
+      let q = stepWith r (cond more (Low o) (Due o)) i (r .walk .phase) (r .walk .kept) f t in
+      part-by (C.Gives q) (L.Gives f t more i) (lowCall (L.Gives f t more i) r o tp) e (λ m. refl)
+      (λ m u. low-gives r tp m (l .size) (l .whole) u o f t more i at s (omega arith) (b .1) (l .walk) (l .settled))

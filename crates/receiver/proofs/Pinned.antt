@@ -16,7 +16,7 @@ use Rattle.receiver.specs.declared.walk.Phase.{Phase}
 use Rattle.receiver.specs.declared.walk.Phase.the-variants.{Body, Head, Judged, Lost}
 use Rattle.receiver.specs.Call.{Answered, Gave, Gives, OpenedAs, stepped}
 use Rattle.receiver.specs.Frame.{Frame, body, head, idle, lost}
-use Rattle.receiver.specs.Low.{wire}
+use Rattle.receiver.specs.Low.{Tag, tagOf, wire}
 use Rattle.receiver.specs.State.{Fine, frameOf, headed, heldOf, keeps, todoOf}
 use Rattle.receiver.proofs.Heading.{length-digits, number-digits}
 
@@ -82,17 +82,24 @@ same-phase c c′ (Body h (suc n)) (Body g (suc i)) k l a b e f = cc
 
 same-kept : (m : List ℕ) (k l : Kept) → heldOf k m ≡ heldOf l m → keeps k ≡ keeps l → k ≡ l
 same-kept m Empty Empty e f = refl
-same-kept m Empty (Of c n) e f = cc
-same-kept m (Of c n) Empty e f = cc
-same-kept m (Of c n) (Of d i) e f = cc
+same-kept m Empty (Of c sum n) e f = cc
+same-kept m (Of c sum n) Empty e f = cc
+same-kept m (Of c sum n) (Of d sum′ i) e f =
+    let t : tagOf c sum ≡ tagOf d sum′ = cc in
+    let p : c ≡ d = ap (λ (t : Tag). t .content) t in
+    let q : sum ≡ sum′ = ap (λ (t : Tag). t .repaired) t in
+    cc
 
 -- a step from its parts
-unfoldable build : ℕ → ℕ → ℕ → Stage → ℕ → Phase → Kept → Find → Step
-build size stream limit stage at p k f =
-    record { receiver = record { size = size; stream = stream; limit = limit; stage = stage; walk = record { at = at; phase = p; kept = k } }; find = f }
+unfoldable build : ℕ → ℕ → ℕ → Stage → ℕ → Phase → Kept → Find → ℕ → Step
+build size stream limit stage at p k f e = record {
+  receiver = record { size = size; stream = stream; limit = limit; stage = stage; walk = record { at = at; phase = p; kept = k } };
+  find = f;
+  about = record { repaired = e };
+}
 
 built : (q : Step)
-    → q ≡ build (q .receiver .size) (q .receiver .stream) (q .receiver .limit) (q .receiver .stage) (q .receiver .walk .at) (q .receiver .walk .phase) (q .receiver .walk .kept) (q .find)
+    → q ≡ build (q .receiver .size) (q .receiver .stream) (q .receiver .limit) (q .receiver .stage) (q .receiver .walk .at) (q .receiver .walk .phase) (q .receiver .walk .kept) (q .find) (q .about .repaired)
 unfolding build
 built q = refl
 
@@ -105,6 +112,7 @@ pinned g tp q q′ m m′ a b =
     let w = q .receiver .walk in
     let w′ = q′ .receiver .walk in
     let find = ap (λ (g : Gave). g .said .find) e in
+    let repaired = ap (λ (g : Gave). g .said .repaired) e in
     let size = ap (λ (g : Gave). g .size) e in
     let stream = ap (λ (g : Gave). g .stream) e in
     let limit = ap (λ (g : Gave). g .limit) e in
@@ -114,11 +122,12 @@ pinned g tp q q′ m m′ a b =
     (ap (λ (g : Gave). g .frame) e) (ap (λ (g : Gave). g .todo) e) in
     let held : heldOf (w .kept) m ≡ heldOf (w′ .kept) m = ap (λ (g : Gave). g .held) e ∙ ap (heldOf (w′ .kept)) (sym room) in
     let kept = same-kept m (w .kept) (w′ .kept) held (ap (λ (g : Gave). g .kept) e) in
-    (built q ∙ same-built size stream limit stage at phase kept find ∙ sym (built q′), room)
+    (built q ∙ same-built size stream limit stage at phase kept find repaired ∙ sym (built q′), room)
   where
-    same-built : {a a′ b b′ c c′ : ℕ} {s s′ : Stage} {i i′ : ℕ} {p p′ : Phase} {k k′ : Kept} {f f′ : Find}
-        → a ≡ a′ → b ≡ b′ → c ≡ c′ → s ≡ s′ → i ≡ i′ → p ≡ p′ → k ≡ k′ → f ≡ f′ → build a b c s i p k f ≡ build a′ b′ c′ s′ i′ p′ k′ f′
-    same-built x y z u v w k f = cc
+    same-built : {a a′ b b′ c c′ : ℕ} {s s′ : Stage} {i i′ : ℕ} {p p′ : Phase} {k k′ : Kept} {f f′ : Find} {t t′ : ℕ}
+        → a ≡ a′ → b ≡ b′ → c ≡ c′ → s ≡ s′ → i ≡ i′ → p ≡ p′ → k ≡ k′ → f ≡ f′ → t ≡ t′
+        → build a b c s i p k f t ≡ build a′ b′ c′ s′ i′ p′ k′ f′ t′
+    same-built x y z u v w k f t = cc
 
 -- an opening and a told gap are equations already
 pub opening-pinned : (size stream limit : ℕ) (q q′ : Opened) → OpenedAs size stream limit q → OpenedAs size stream limit q′ → q ≡ q′

@@ -147,7 +147,7 @@ module _ (r : Receiver) (tp : List ℕ) (able : Able r) (whole : length tp ≡ r
       by : (g : Gain) → LessBy g (toil (length tp) (a .walk)) (toil (length tp) (r .walk)) → NearBy Plain (gaveOf (tellOf g r (a .walk)) (readOf (r .walk) (a .walk)))
       by G.Nothing l = omega arith
       by (G.Notice n) l = sure (ltb 9 n) _ _ (omega arith)
-      by (G.Packet c n) l = omega arith
+      by (G.Packet c sum n) l = omega arith
 
   stage-near : (g : Stage) → NearBy g (stageTurn g r tp)
   stage-near Fresh = top-near (topOf (r .stream) tp) refl
@@ -173,7 +173,7 @@ turn-as r tp q a b e = let p = subst (Promised r tp) (sym e) (by (eqb (length tp
         let t = stageTurn (r .stage) r tp in
         let x = stageCall (r .stage) r tp m in
         let d = stage-made r tp m a w (length-replicate (r .limit) 0) b (r .stage) (a .stage) in
-        (able-by (t .told) (r .stage) x r tp m (t .receiver) _ d, stage-in r tp a w b (r .stage), stage-near r tp a w (r .stage))
+        (able-by (t .told) (t .about) (r .stage) x r tp m (t .receiver) _ d, stage-in r tp a w b (r .stage), stage-near r tp a w (r .stage))
     by false e = (a, record { from = omega arith; to = omega arith; fits = omega arith }, omega arith)
 
 pub turn-six : (r : Receiver) (tp : List ℕ) → (r .size ≡ length tp → ⊥) → sameTurn r 6 ≡ turnOf r tp

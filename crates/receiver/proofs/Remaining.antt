@@ -69,7 +69,7 @@ module _ (r : Receiver) where
   tell-lasts : (g : Gain) (w : Walk) → Lasts r (tellOf g r w .receiver)
   tell-lasts G.Nothing w = kept _ _
   tell-lasts (G.Notice n) w = kept _ _
-  tell-lasts (G.Packet c n) w = kept _ _
+  tell-lasts (G.Packet c sum n) w = kept _ _
 
   plain-lasts : (t : Turn) → Lasts r (ordinaryTurn t r .receiver)
   plain-lasts (More x) = kept _ _
@@ -97,8 +97,8 @@ turn-coming r tp m a b f w e =
     let q = turnOf r tp .receiver in
     let m′ = putOf (turnOf r tp .piece) tp m in
     let s = turn-lasts r tp in
-    let n : Makes T.More r tp m (turnOf r tp .receiver) (putOf (turnOf r tp .piece) tp m) =
-    subst (λ (t : Told). Makes t r tp m (turnOf r tp .receiver) (putOf (turnOf r tp .piece) tp m)) e (turn-makes r tp m a b f) in
+    let n : Makes T.More (turnOf r tp .about) r tp m (turnOf r tp .receiver) (putOf (turnOf r tp .piece) tp m) =
+    subst (λ (t : Told). Makes t (turnOf r tp .about) r tp m (turnOf r tp .receiver) (putOf (turnOf r tp .piece) tp m)) e (turn-makes r tp m a b f) in
     call-rest q tp m′ (turn-as r tp (turnOf r tp) a b refl .able) (n .0) (w ∙ sym (s .size))
     ∙ ap (λ (g : Gave). afterwards (q .limit) g tp) (n .1)
     ∙ ap (λ (cap : ℕ). afterwards cap (callOf r tp m) tp) (s .limit)

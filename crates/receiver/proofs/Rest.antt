@@ -62,16 +62,16 @@ module _ (cap : ℕ) where
   stageRest S.Plain at f s es tp = plainRest s es f at tp
 
   -- the finds that an answer is: none where it says none
-  abbrev pub saying : Find → List ℕ → List (Finding wire)
-  saying F.Nothing d = []
-  saying F.Refused d = []
-  saying (F.Notice n) d = notice n ∷ []
-  saying (F.Low c start n) d = low c d ∷ []
-  saying (F.Ordinary c n) d = ordinary c d ∷ []
+  abbrev pub saying : Find → ℕ → List ℕ → List (Finding wire)
+  saying F.Nothing e d = []
+  saying F.Refused e d = []
+  saying (F.Notice n) e d = notice n ∷ []
+  saying (F.Low c start n) e d = low (record { content = c; repaired = e }) d ∷ []
+  saying (F.Ordinary c n) e d = ordinary (record { content = c; repaired = e }) d ∷ []
 
   -- what a call gave, and what it left
   abbrev pub afterwards : Gave → List ℕ → Listing
-  afterwards g tp = before (saying (g .said .find) (g .said .bytes)) (stageRest (g .stage) (g .at) (g .frame) (g .held) (g .todo) tp)
+  afterwards g tp = before (saying (g .said .find) (g .said .repaired) (g .said .bytes)) (stageRest (g .stage) (g .at) (g .frame) (g .held) (g .todo) tp)
 
   -- ordinary bytes
 

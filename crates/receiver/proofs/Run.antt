@@ -37,11 +37,11 @@ module _ (C : Code) (cap : ℕ) where
   puts-free [] m = refl
   puts-free (d ∷ ds) m = puts-free ds m
 
-  pub grows-held : (c : ℕ) (x ds : List (C .B)) → grows (held c x) ds ≡ held c (x ++ ds)
+  pub grows-held : (c : C .T) (x ds : List (C .B)) → grows (held c x) ds ≡ held c (x ++ ds)
   grows-held c x [] = ap (held c) (sym (append-nil x))
   grows-held c x (d ∷ ds) = grows-held c (x ++ d ∷ []) ds ∙ ap (held c) (append-assoc x (d ∷ []) ds)
 
-  pub puts-held : (c n : ℕ) (x ds m : List (C .B)) → n ≡ length x → puts (held c x) ds m ≡ sets m n ds
+  pub puts-held : (c : C .T) (n : ℕ) (x ds m : List (C .B)) → n ≡ length x → puts (held c x) ds m ≡ sets m n ds
   puts-held c n x [] m e = refl
   puts-held c n x (d ∷ ds) m e =
       puts-held c (suc n) (x ++ d ∷ []) ds (set m (length x) d) (omega (arith, length-append x (d ∷ [])))

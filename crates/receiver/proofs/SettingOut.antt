@@ -90,7 +90,7 @@ roomy cap Lost k f = f
 roomy cap (Head n w) k f = f .2
 roomy cap (Judged h) k f = f
 roomy cap (Body h n) Empty f = f
-roomy cap (Body h n) (Of c l) f = omega arith
+roomy cap (Body h n) (Of c sum l) f = omega arith
 
 pub settled-todo : (p : Phase) → Settled p → todoOf p ≡ []
 settled-todo Lost s = refl

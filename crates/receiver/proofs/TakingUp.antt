@@ -22,7 +22,7 @@ use Rattle.receiver.specs.declared.walk.Kept.the-variants.{Empty}
 use Rattle.receiver.specs.declared.walk.Phase.the-variants.{Lost}
 use Rattle.receiver.specs.Call.{Gave, wordCall, payloadCall, firstCall, gone, stageCall, unchanged}
 use Rattle.receiver.specs.State.{Able, Staged}
-use Rattle.receiver.specs.Pieces.{saysOf, stepOf, topOf}
+use Rattle.receiver.specs.Pieces.{sameOf, saysOf, stepOf, topOf}
 use Rattle.receiver.specs.InStages.{Begins, Leads, Lent, PartAt, partCall}
 use Rattle.receiver.proofs.Calling.{gone-gives, same-gives}
 use Rattle.receiver.proofs.Parting.{leads-by}
@@ -110,7 +110,7 @@ fresh-top r tp m = by (eqb (streamOf (getD tp 0 0)) (r .stream)) (eqb (versionOf
     by false b o = refl
 
 abbrev pub firstBy : Top → Receiver → Begun
-firstBy Elsewhere r = B.Gives (record { receiver = r; find = F.Notice 8 })
+firstBy Elsewhere r = B.Gives (sameOf r (F.Notice 8))
 firstBy (Dropped n) r = B.Gives (stepOf r Fresh 0 Lost Empty (F.Notice n))
 firstBy (Says low o) r = B.Part low o 4
 

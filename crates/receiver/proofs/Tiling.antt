@@ -36,8 +36,8 @@ use Rattle.receiver.specs.declared.walk.Turn.{Turn}
 use Rattle.receiver.specs.declared.walk.Turn.the-variants.{More, Stop}
 use Rattle.receiver.specs.declared.walk.Walk.{Walk}
 use Rattle.receiver.specs.Kind.{kindOf}
-use Rattle.receiver.specs.Low.{llep}
-use Rattle.receiver.specs.Turns.{admitOf, advanceBy, advanceOf, bodyTurn, finishOf, fitsOf, furtherOf, goes, grownBy, handedOf, headerTurn, meetsOf, openedOf, stops, wholeOf}
+use Rattle.receiver.specs.Low.{beginOf, joinOf, llep, Tag, tagOf}
+use Rattle.receiver.specs.Turns.{admitOf, advanceBy, advanceOf, bodyTurn, finishOf, fitsOf, furtherOf, goes, grownBy, handedOf, headerTurn, keptAs, meetsOf, openedOf, stops, wholeOf}
 use Rattle.receiver.specs.Outset.{placeOf, setOutOf}
 use Rattle.receiver.specs.Pieces.{dueTurn, llepTurn, outTurn, ordinaryTurn, readOf, sameTurn, stageTurn, topTurn, turnOf, tellOf, topOf}
 use Rattle.receiver.specs.Turn.{Tiles, refused, on-to, ends, standsBy}
@@ -48,30 +48,30 @@ use Rattle.receiver.specs.State.{Able}
 abbrev NoneAt : ℕ → Gain → ℕ → Type 0
 NoneAt len Nothing i = i ≡ len
 NoneAt len (Notice n) i = 0 ≤ 0
-NoneAt len (Packet c n) i = 0 ≤ 0
+NoneAt len (Packet c sum n) i = 0 ≤ 0
 
 abbrev Late : ℕ → Turn → Type 0
 Late len (More x) = 0 ≤ 0
 Late len (Stop a) = NoneAt len (a .gain) (a .walk .at)
 
 module _ (len : ℕ) where
-  fits-late : (at : ℕ) (h : Header) (c n cap : ℕ) → Late len (fitsOf at h c n cap)
+  fits-late : (at : ℕ) (h : Header) (c : Tag) (n cap : ℕ) → Late len (fitsOf at h c n cap)
   unfolding fitsOf
   fits-late at h c n cap = by (leb (h .size) (cap - n))
     where
-      by : (b : Bool) → Late len (cond b (goes at (Body h (h .size)) (Of c n)) (stops at (Body h (h .size)) Empty (Notice 15)))
+      by : (b : Bool) → Late len (cond b (goes at (Body h (h .size)) (keptAs c n)) (stops at (Body h (h .size)) Empty (Notice 15)))
       by true = omega arith
       by false = omega arith
 
   further-late : (at : ℕ) (h : Header) (k : Kept) (cap : ℕ) → Late len (furtherOf at h k cap)
   further-late at h Empty cap = omega arith
-  further-late at h (Of c n) cap = fits-late at h c n cap
+  further-late at h (Of c sum n) cap = fits-late at h (joinOf (tagOf c sum) h) n cap
 
   admit-late : (d : Kind) (at : ℕ) (h : Header) (k : Kept) (cap : ℕ) → Late len (admitOf d at h k cap)
   admit-late Fill at h k cap = omega arith
   admit-late Reserved at h k cap = omega arith
-  admit-late Complete at h k cap = fits-late at h (h .content) 0 cap
-  admit-late First at h k cap = fits-late at h (h .content) 0 cap
+  admit-late Complete at h k cap = fits-late at h (beginOf h) 0 cap
+  admit-late First at h k cap = fits-late at h (beginOf h) 0 cap
   admit-late Middle at h k cap = further-late at h k cap
   admit-late Last at h k cap = further-late at h k cap
 
@@ -86,7 +86,7 @@ module _ (len : ℕ) where
 
   handed-late : (at : ℕ) (k : Kept) → Late len (handedOf at k)
   handed-late at Empty = omega arith
-  handed-late at (Of c n) = omega arith
+  handed-late at (Of c sum n) = omega arith
 
   finish-late : (d : Kind) (at : ℕ) (k : Kept) → Late len (finishOf d at k)
   finish-late Fill at k = omega arith
@@ -151,10 +151,10 @@ module _ (r : Receiver) (len : ℕ) where
   plain-tiles (Stop a) l = by (a .gain) l
     where
       by : (g : Gain) → NoneAt len g (a .walk .at)
-          → Tiles (r .walk .at) len r (record { receiver = tellOf g r (a .walk) .receiver; piece = readOf (r .walk) (a .walk); told = T.Gives (tellOf g r (a .walk) .find) })
+          → Tiles (r .walk .at) len r (record { receiver = tellOf g r (a .walk) .receiver; piece = readOf (r .walk) (a .walk); told = T.Gives (tellOf g r (a .walk) .find); about = tellOf g r (a .walk) .about })
       by Nothing l = ends refl refl l
       by (Notice n) l = on-to refl not-plain refl
-      by (Packet c n) l = on-to refl not-plain refl
+      by (Packet c sum n) l = on-to refl not-plain refl
 
 due-tiles : (r : Receiver) (tp : List ℕ) (p : Place) → Tiles (r .walk .at) (length tp) r (dueTurn p r tp)
 due-tiles r tp (Outside n) = on-to refl not-plain refl

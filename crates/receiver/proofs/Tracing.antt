@@ -15,7 +15,7 @@ use Rattle.receiver.specs.declared.kind.Kind.the-variants.{Complete, Fil
 use Rattle.receiver.specs.Frame.{Event, entered, fed, opened}
 use Rattle.receiver.specs.Join.{Held, Took, admit, free, grown, held, meets, notice}
 use Rattle.receiver.specs.Kind.{kindOf}
-use Rattle.receiver.specs.Low.{wire}
+use Rattle.receiver.specs.Low.{beginOf, joinOf, Tag, wire}
 use Rattle.receiver.proofs.Flow.{Place, apart, inside-of, met-at}
 use Rattle.receiver.proofs.Packets.{Begun, Ends-in, Ep, bytesOf, feeds, readEp, readEps}
 
@@ -41,12 +41,12 @@ pub data Into (c : ℕ) (es : List (Event wire)) : Kind → List ℕ → Type 0 
 -- between two EPs
 abbrev pub Rests : Held wire → List (Event wire) → Type 0
 Rests free es = 0 ≤ 0
-Rests (held c d) es = (ps : List Ep) × Begun c ps × Ends-in es ps d
+Rests (held t d) es = (ps : List Ep) × Begun (t .content) ps × Ends-in es ps d
 
 -- at a header
 abbrev pub Meets : Held wire → Header → List (Event wire) → Type 0
 Meets free h es = 0 ≤ 0
-Meets (held c d) h es = (c ≡ h .content) × ((ps : List Ep) × Begun c ps × Ends-in es ps d)
+Meets (held t d) h es = (t .content ≡ h .content) × ((ps : List Ep) × Begun (t .content) ps × Ends-in es ps d)
 
 -- in an EP's data: behind es₀, its header and the bytes ds
 pub record In (h : Header) (n c : ℕ) (d : List ℕ) (es : List (Event wire)) : Type 0 where
@@ -61,7 +61,7 @@ pub record In (h : Header) (n c : ℕ) (d : List ℕ) (es : List (Event wire)) :
 
 abbrev pub Ins : Header → ℕ → Held wire → List (Event wire) → Type 0
 Ins h n free es = 0 ≤ 0
-Ins h n (held c d) es = In h n c d es
+Ins h n (held t d) es = In h n (t .content) d es
 
 abbrev pub Inv : Place → Held wire → List (Event wire) → Type 0
 Inv apart s es = Rests s es
@@ -79,22 +79,22 @@ module _ (room : ℕ) where
   opens-by First free h es i = i
   opens-by First (held c d) h es i = omega arith
   opens-by Middle free h es i = i
-  opens-by Middle (held c d) h es i = goes (eqb c (h .content)) refl
+  opens-by Middle (held t d) h es i = goes (eqb (t .content) (h .content)) refl
     where
-      goes : (b : Bool) → eqb c (h .content) ≡ b → Meets (cond {A = Took wire} b (held c d, none) (free, some (notice 14)) .0) h es
-      goes true e = (eqb-true c (h .content) e, i)
+      goes : (b : Bool) → eqb (t .content) (h .content) ≡ b → Meets (cond {A = Took wire} b (held t d, none) (free, some (notice 14)) .0) h es
+      goes true e = (eqb-true (t .content) (h .content) e, i)
       goes false e = omega arith
   opens-by Last free h es i = i
-  opens-by Last (held c d) h es i = goes (eqb c (h .content)) refl
+  opens-by Last (held t d) h es i = goes (eqb (t .content) (h .content)) refl
     where
-      goes : (b : Bool) → eqb c (h .content) ≡ b → Meets (cond {A = Took wire} b (held c d, none) (free, some (notice 14)) .0) h es
-      goes true e = (eqb-true c (h .content) e, i)
+      goes : (b : Bool) → eqb (t .content) (h .content) ≡ b → Meets (cond {A = Took wire} b (held t d, none) (free, some (notice 14)) .0) h es
+      goes true e = (eqb-true (t .content) (h .content) e, i)
       goes false e = omega arith
 
   -- into an EP, whose data are kept behind d, or passed over
-  fits-by : (b : Bool) (h : Header) (c : ℕ) (d : List ℕ) (es : List (Event wire)) → h .content ≡ c → Into c es (kindOf h) d
-      → Ins h (h .size) (cond {A = Took wire} b (held c d, none) (free, some (notice 15)) .0) ((es ++ opened h ∷ []) ++ entered h ∷ [])
-  fits-by true h c d es e i = record {
+  fits-by : (b : Bool) (h : Header) (t : Tag) (d : List ℕ) (es : List (Event wire)) → h .content ≡ t .content → Into (t .content) es (kindOf h) d
+      → Ins h (h .size) (cond {A = Took wire} b (held t d, none) (free, some (notice 15)) .0) ((es ++ opened h ∷ []) ++ entered h ∷ [])
+  fits-by true h t d es e i = record {
     es₀ = es;
     ds = [];
     d₀ = d;
@@ -104,20 +104,20 @@ module _ (room : ℕ) where
     into = i;
     bytes = sym (append-nil d);
   }
-  fits-by false h c d es e i = omega arith
+  fits-by false h t d es e i = omega arith
 
   pub enters-by : (k : Kind) (s : Held wire) (h : Header) (es : List (Event wire)) → kindOf h ≡ k → Meets s h es
-      → Ins h (h .size) (admit wire room k s (h .content) (h .size) .0) ((es ++ opened h ∷ []) ++ entered h ∷ [])
+      → Ins h (h .size) (admit wire room k h s .0) ((es ++ opened h ∷ []) ++ entered h ∷ [])
   enters-by Fill s h es e i = omega arith
   enters-by Reserved s h es e i = omega arith
-  enters-by Complete s h es e i = fits-by (leb (0 + h .size) room) h (h .content) [] es refl (subst (λ (k : Kind). Into (h .content) es k []) (sym e) alone)
-  enters-by First s h es e i = fits-by (leb (0 + h .size) room) h (h .content) [] es refl (subst (λ (k : Kind). Into (h .content) es k []) (sym e) new)
+  enters-by Complete s h es e i = fits-by (leb (0 + h .size) room) h (beginOf h) [] es refl (subst (λ (k : Kind). Into (h .content) es k []) (sym e) alone)
+  enters-by First s h es e i = fits-by (leb (0 + h .size) room) h (beginOf h) [] es refl (subst (λ (k : Kind). Into (h .content) es k []) (sym e) new)
   enters-by Middle free h es e i = omega arith
-  enters-by Middle (held c d) h es e i =
-      fits-by (leb (length d + h .size) room) h c d es (sym (i .0)) (subst (λ (k : Kind). Into c es k d) (sym e) (onward (i .1 .1) (i .1 .2)))
+  enters-by Middle (held t d) h es e i =
+      fits-by (leb (length d + h .size) room) h (joinOf t h) d es (sym (i .0)) (subst (λ (k : Kind). Into (t .content) es k d) (sym e) (onward (i .1 .1) (i .1 .2)))
   enters-by Last free h es e i = omega arith
-  enters-by Last (held c d) h es e i =
-      fits-by (leb (length d + h .size) room) h c d es (sym (i .0)) (subst (λ (k : Kind). Into c es k d) (sym e) (lastly (i .1 .1) (i .1 .2)))
+  enters-by Last (held t d) h es e i =
+      fits-by (leb (length d + h .size) room) h (joinOf t h) d es (sym (i .0)) (subst (λ (k : Kind). Into (t .content) es k d) (sym e) (lastly (i .1 .1) (i .1 .2)))
 
   pub feeds-by : (s : Held wire) (h : Header) (k b : ℕ) (es : List (Event wire)) → Ins h (suc k) s es → Ins h k (grown wire s b) (es ++ fed b ∷ [])
   feeds-by free h k b es i = i

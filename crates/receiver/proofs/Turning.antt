@@ -21,20 +21,20 @@ use Rattle.receiver.specs.declared.walk.Walk.{Walk}
 use Rattle.receiver.specs.Frame.{Event, Frame, ending, entered, idle, whole, within}
 use Rattle.receiver.specs.Join.{Took, admit, broken, finish, fits, free, further, goes-on, handed, held, meets, notice}
 use Rattle.receiver.specs.Kind.{kindOf}
-use Rattle.receiver.specs.Low.{wire}
+use Rattle.receiver.specs.Low.{beginOf, joinOf, Tag, tagOf, wire}
 use Rattle.receiver.specs.Pull.{Pulled, meet, met, pull}
 use Rattle.receiver.specs.State.{Roomy, Sound, heldOf, pullOf}
-use Rattle.receiver.specs.Turns.{admitOf, emptyOf, finishOf, fitsOf, furtherOf, goes, handedOf, holdsOf, meetsOf, openedOf, stops, toil, walkAt, wholeOf}
+use Rattle.receiver.specs.Turns.{admitOf, emptyOf, finishOf, fitsOf, furtherOf, goes, handedOf, holdsOf, keptAs, meetsOf, openedOf, stops, toil, walkAt, wholeOf}
 use Rattle.receiver.specs.InWalk.{Carries, shown}
 use Rattle.receiver.proofs.Heading.{on-with}
 
 broken-law : (m : List ℕ) (k : Kept) → broken wire (heldOf k m) ≡ cond (emptyOf k) (heldOf k m, none) (free, some (notice 14))
 broken-law m Empty = refl
-broken-law m (Of c n) = refl
+broken-law m (Of c sum n) = refl
 
 goes-law : (m : List ℕ) (k : Kept) (c : ℕ) → goes-on wire (heldOf k m) c ≡ cond (holdsOf k c) (heldOf k m, none) (free, some (notice 14))
 goes-law m Empty c = refl
-goes-law m (Of c₀ n) c = refl
+goes-law m (Of c₀ sum n) c = refl
 
 pub meets-law : (m : List ℕ) (d : Kind) (k : Kept) (c : ℕ)
     → meets wire d (heldOf k m) c ≡ cond (meetsOf d k c) (heldOf k m, none) (free, some (notice 14))
@@ -50,11 +50,11 @@ module _ (cap : ℕ) (tp m : List ℕ) (full : length m ≡ cap) where
   abbrev came : ℕ → Frame wire → List (Event wire) → Took wire → Pulled wire
   came j f es T = pull wire cap f j (met wire (T .1) (T .0) m es (meet wire cap (T .0) m es)) (drop j tp)
 
-  fits-by : (b : Bool) (w : Walk) (j : ℕ) (h : Header) (c n : ℕ) (d : List ℕ) → d ≡ take n m → j ≤ length tp → n ≤ cap
+  fits-by : (b : Bool) (w : Walk) (j : ℕ) (h : Header) (c : Tag) (n : ℕ) (d : List ℕ) → d ≡ take n m → j ≤ length tp → n ≤ cap
       → 3 * (length tp - j) + 1 < toil (length tp) w
       → came j (within wire h (h .size)) (ending wire h (h .size)) (fits wire cap (h .size) c d) ≡ pullOf cap w tp m
       → leb (h .size) (cap - n) ≡ b
-      → Carries cap w tp m (cond b (goes j (Body h (h .size)) (Of c n)) (stops j (Body h (h .size)) Empty (Notice 15))) m
+      → Carries cap w tp m (cond b (goes j (Body h (h .size)) (keptAs c n)) (stops j (Body h (h .size)) Empty (Notice 15))) m
   unfolding Carries pullOf shown
   fits-by true w j h c n d x l r u e q =
       let y : length d ≡ n = ap length x ∙ length-take-le n m (omega arith) in
@@ -75,7 +75,7 @@ module _ (cap : ℕ) (tp m : List ℕ) (full : length m ≡ cap) where
         gained = omega arith;
       }
 
-  fits-turned : (w : Walk) (j : ℕ) (h : Header) (c n : ℕ) (d : List ℕ) → d ≡ take n m → j ≤ length tp → n ≤ cap
+  fits-turned : (w : Walk) (j : ℕ) (h : Header) (c : Tag) (n : ℕ) (d : List ℕ) → d ≡ take n m → j ≤ length tp → n ≤ cap
       → 3 * (length tp - j) + 1 < toil (length tp) w
       → came j (within wire h (h .size)) (ending wire h (h .size)) (fits wire cap (h .size) c d) ≡ pullOf cap w tp m
       → Carries cap w tp m (fitsOf j h c n cap) m
@@ -84,21 +84,21 @@ module _ (cap : ℕ) (tp m : List ℕ) (full : length m ≡ cap) where
 
   further-turned : (w : Walk) (j : ℕ) (h : Header) (k : Kept) → j ≤ length tp → Roomy cap k 0
       → 3 * (length tp - j) + 1 < toil (length tp) w
-      → came j (within wire h (h .size)) (ending wire h (h .size)) (further wire cap (heldOf k m) (h .size)) ≡ pullOf cap w tp m
+      → came j (within wire h (h .size)) (ending wire h (h .size)) (further wire cap h (heldOf k m)) ≡ pullOf cap w tp m
       → Carries cap w tp m (furtherOf j h k cap) m
   unfolding Carries pullOf
   further-turned w j h Empty l r u e = record { same = e; sound = record { at = l; phase = omega arith }; less = u }
-  further-turned w j h (Of c n) l r u e = fits-turned w j h c n (take n m) refl l (omega arith) u e
+  further-turned w j h (Of c sum n) l r u e = fits-turned w j h (joinOf (tagOf c sum) h) n (take n m) refl l (omega arith) u e
 
   admit-by : (d : Kind) (w : Walk) (j : ℕ) (h : Header) (k : Kept) → j ≤ length tp → Roomy cap k 0
       → 3 * (length tp - j) + 1 < toil (length tp) w
-      → came j (within wire h (h .size)) (ending wire h (h .size)) (admit wire cap d (heldOf k m) (h .content) (h .size)) ≡ pullOf cap w tp m
+      → came j (within wire h (h .size)) (ending wire h (h .size)) (admit wire cap d h (heldOf k m)) ≡ pullOf cap w tp m
       → Carries cap w tp m (admitOf d j h k cap) m
   unfolding Carries pullOf shown
   admit-by Fill w j h k l r u e = record { same = e; sound = record { at = l; phase = omega arith }; less = u }
   admit-by Reserved w j h k l r u e = record { same = e; sound = record { at = l; phase = omega arith }; gained = omega arith }
-  admit-by Complete w j h k l r u e = fits-turned w j h (h .content) 0 [] refl l (omega arith) u e
-  admit-by First w j h k l r u e = fits-turned w j h (h .content) 0 [] refl l (omega arith) u e
+  admit-by Complete w j h k l r u e = fits-turned w j h (beginOf h) 0 [] refl l (omega arith) u e
+  admit-by First w j h k l r u e = fits-turned w j h (beginOf h) 0 [] refl l (omega arith) u e
   admit-by Middle w j h k l r u e = further-turned w j h k l r u e
   admit-by Last w j h k l r u e = further-turned w j h k l r u e
 
@@ -136,7 +136,7 @@ module _ (cap : ℕ) (tp m : List ℕ) (full : length m ≡ cap) where
       → Carries cap w tp mₒ (handedOf j k) m
   unfolding Carries pullOf shown
   handed-turned w mₒ j Empty l r u e = record { same = e; sound = record { at = l; phase = omega arith }; less = omega arith }
-  handed-turned w mₒ j (Of c n) l r u e = record { same = e; sound = record { at = l; phase = omega arith }; gained = r }
+  handed-turned w mₒ j (Of c sum n) l r u e = record { same = e; sound = record { at = l; phase = omega arith }; gained = r }
 
   kept-turned : (w : Walk) (mₒ : List ℕ) (j : ℕ) (k : Kept) → j ≤ length tp → Roomy cap k 0
       → 3 * (length tp - j) < toil (length tp) w

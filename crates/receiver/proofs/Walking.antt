@@ -16,6 +16,7 @@ use Rattle.golay.specs.declared.End.{End}
 use Rattle.golay.specs.declared.End.the-variants.{Neither, Ones, Zeros}
 use Rattle.wire.specs.Reading.{headerIn, headerOf, readOf}
 use Rattle.wire.specs.declared.Header.{Header}
+use Rattle.wire.proofs.Laws.{few-flips}
 use Rattle.receiver.specs.declared.Told.{Told}
 use Rattle.receiver.specs.declared.kind.Kind.{Kind}
 use Rattle.receiver.specs.declared.kind.Kind.the-variants.{Complete, Fill, First, Last, Middle, Reserved}
@@ -24,8 +25,8 @@ use Rattle.receiver.specs.declared.low.Llep.the-variants.{Broken, Whole}
 use Rattle.receiver.specs.declared.low.Lows.{Lows}
 use Rattle.receiver.specs.declared.low.One.the-variants.{More, Stop}
 use Rattle.receiver.specs.Kind.{kindOf}
-use Rattle.receiver.specs.Low.{begins, ended, llep, sized}
-use Rattle.receiver.specs.Lows.{andThen, lows, lowsOf, oneOf, passedBy, passedOf, toldOf}
+use Rattle.receiver.specs.Low.{begins, counting, ended, endsBy, llep, sized}
+use Rattle.receiver.specs.Lows.{andThen, lows, lowsOf, oneOf, passedBy, passedOf, repairedOf, toldOf}
 use Rattle.wire.specs.declared.Read.the-variants as R
 use Rattle.receiver.specs.declared.low.Lows.the-variants as L
 
@@ -38,13 +39,13 @@ closed-out tp at h b l =
     rw (lt-ltb (length (drop at tp)) (7 + h .size) q)
 
 pub closed-in : (tp : List ℕ) (at : ℕ) (h : Header) → at + 7 ≤ length tp → h .size ≤ length tp - at - 7
-    → ended (endOf (getD tp (at + 6 + h .size) 0)) h ≡ sized h (drop at tp)
+    → endsBy (getD tp (at + 6 + h .size) 0) h ≡ sized h (drop at tp)
 unfolding sized
 closed-in tp at h b l =
     let q : 7 + h .size ≤ length (drop at tp) = omega (arith, length-drop at tp) in
     let i : at + 6 + h .size ≡ at + (6 + h .size) = omega arith in
     let e : getD tp (at + 6 + h .size) 0 ≡ getD (drop at tp) (6 + h .size) 0 = ap (λ (i : ℕ). getD tp i 0) i ∙ sym (getD-drop at tp (6 + h .size) 0) in
-    rw (le-ltb (length (drop at tp)) (7 + h .size) q) (ap (λ (b : ℕ). ended (endOf b) h) e)
+    rw (le-ltb (length (drop at tp)) (7 + h .size) q) (ap (λ (b : ℕ). endsBy b h) e)
 
 pub item-short : (tp : List ℕ) (at : ℕ) → length tp - at < 7 → Broken ≡ llep (drop at tp)
 unfolding llep
@@ -74,6 +75,13 @@ pub item-whole : (tp : List ℕ) (at n : ℕ) (h : Header) → 7 ≤ length tp -
     → sized h (drop at tp) ≡ llep (drop at tp)
 item-whole tp at n h l e r = begins-whole h (headerIn n) (drop at tp) r ∙ ap (λ (n : ℕ). begins (headerIn n) (drop at tp)) e ∙ sym (long tp at l)
 
+pub read-few : (n : ℕ) (h : Header) → readOf (headerIn n) ≡ R.Whole h → h .flips ≤ 8
+read-few n h e = by (headerIn n) refl e
+  where
+    by : (o : Option Header) → headerIn n ≡ o → readOf o ≡ R.Whole h → h .flips ≤ 8
+    by none q e = let z : _≡_ {A = ℕ} 0 1 = cc in absurd (omega arith)
+    by (some g) q e = let z : g ≡ h = cc in few-flips n h (q ∙ ap some z)
+
 -- an LLEP that is whole lies within the bytes
 
 pub broken-else : (b : Bool) (x : Llep) (h : Header) (m : Bool) → cond b Broken x ≡ Whole h m → (b ≡ false) × (x ≡ Whole h m)
@@ -89,8 +97,9 @@ begins-in : (o : Option Header) (bs : List ℕ) (h : Header) (m : Bool) → begi
 unfolding sized
 begins-in none bs h m e = let z : _≡_ {A = ℕ} 0 1 = cc in omega arith
 begins-in (some g) bs h m e =
-    let t = broken-else (ltb (length bs) (7 + g .size)) (ended (endOf (getD bs (6 + g .size) 0)) g) h m e in
-    let q = ended-is (endOf (getD bs (6 + g .size) 0)) g h m (t .1) in
+    let b = getD bs (6 + g .size) 0 in
+    let t = broken-else (ltb (length bs) (7 + g .size)) (endsBy b g) h m e in
+    let q = ended-is (endOf b) (counting b g) h m (t .1) in
     let s : g .size ≡ h .size = ap (λ (h : Header). h .size) q in
     omega (arith, ltb-false (length bs) (7 + g .size) (t .0))
 
@@ -101,8 +110,9 @@ llep-in bs h m e = begins-in (headerOf (take 6 bs)) bs h m (broken-else (ltb (le
 pub inside-at : (tp : List ℕ) (at : ℕ) (h : Header) (m : Bool) → llep (drop at tp) ≡ Whole h m → at + 7 + h .size ≤ length tp
 inside-at tp at h m e = omega (arith, llep-in (drop at tp) h m e, length-drop at tp)
 
-pub passed-by : (k : Kind) (h : Header) (m : Bool) (at : ℕ) (t u : Told) → t ≡ toldOf k h at → t ≡ u → passedBy u m (at + 7 + h .size) ≡ passedOf k h m at
-passed-by k h m at t u e q = ap (λ (t : Told). passedBy t m (at + 7 + h .size)) (sym q ∙ e)
+pub passed-by : (k : Kind) (h : Header) (m : Bool) (at : ℕ) (t u : Told) → t ≡ toldOf k h at → t ≡ u
+    → passedBy u (repairedOf k h) m (at + 7 + h .size) ≡ passedOf k h m at
+passed-by k h m at t u e q = ap (λ (t : Told). passedBy t (repairedOf k h) m (at + 7 + h .size)) (sym q ∙ e)
 
 -- the loop: the walk from `at` says what the walk from `start` says
 
@@ -143,7 +153,7 @@ stops-at tp start at r e (k, (h, w)) = rw e at w
 abbrev pub place : Lows → ℕ
 place (L.Broken i) = i
 place (L.End i) = i
-place (L.Gives f more i) = i
+place (L.Gives f e more i) = i
 
 abbrev Between : ℕ → Lows → ℕ → Type 0
 Between a r z = (a ≤ place r) × (place r ≤ z)

@@ -24,7 +24,7 @@ use Rattle.receiver.specs.Forecast.{dropped}
 use Rattle.receiver.specs.Frame.{Frame}
 use Rattle.receiver.specs.Join.{Held, low, notice}
 use Rattle.receiver.specs.Kind.{kindOf}
-use Rattle.receiver.specs.Low.{given, llep, wire}
+use Rattle.receiver.specs.Low.{beginOf, given, llep, wire}
 use Rattle.receiver.specs.Lows.{andThen, lows, lowsOf, oneOf, passedOf}
 use Rattle.receiver.specs.State.{frameOf, heldOf, todoOf}
 use Rattle.receiver.specs.Tp.{Listing, Setting, Stand, behind, dropping, heard, lowPartIf, refusing, worded}
@@ -57,7 +57,7 @@ module _ (r : Receiver) (o : ℕ) (tp m : List ℕ) where
   low-kind Fill h false k at a b c ih = due-rest (length m) r o (at + 7 + h .size) tp m refl
   low-kind Complete h more k at a b c ih =
       ap (before (given Complete h (drop at tp))) (stage-next more k (at + 7 + h .size) (omega arith) b c)
-      ∙ ap (λ (l : List ℕ). before (low (h .content) (take (h .size) l) ∷ []) (Next (cond more (S.Low o) (S.Due o)) (at + 7 + h .size))) (drop-drop 6 at tp)
+      ∙ ap (λ (l : List ℕ). before (low (beginOf h) (take (h .size) l) ∷ []) (Next (cond more (S.Low o) (S.Due o)) (at + 7 + h .size))) (drop-drop 6 at tp)
   low-kind Reserved h more k at a b c ih = ap (before (notice 16 ∷ [])) (stage-next more k (at + 7 + h .size) (omega arith) b c)
   low-kind First h more k at a b c ih = ap (before (notice 16 ∷ [])) (stage-next more k (at + 7 + h .size) (omega arith) b c)
   low-kind Middle h more k at a b c ih = ap (before (notice 16 ∷ [])) (stage-next more k (at + 7 + h .size) (omega arith) b c)

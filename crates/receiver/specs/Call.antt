@@ -25,7 +25,7 @@ use Rattle.receiver.specs.declared.walk.Walk.{Walk}
 use Rattle.receiver.specs.Frame.{Frame, lost, Event}
 use Rattle.receiver.specs.Forecast.{Start, outset, dropped}
 use Rattle.receiver.specs.Join.{Held, free, held, Finding, notice, low, ordinary}
-use Rattle.receiver.specs.Low.{wire}
+use Rattle.receiver.specs.Low.{Tag, wire}
 use Rattle.receiver.specs.Pull.{Pulled}
 use Rattle.receiver.specs.Lows.{lowsOf}
 use Rattle.receiver.specs.State.{frameOf, todoOf, heldOf, keeps, pullOf, from, Able}
@@ -46,17 +46,21 @@ dataOf (F.Notice n) tp m = []
 dataOf (F.Low c start n) tp m = take n (drop start tp)
 dataOf (F.Ordinary c n) tp m = take n m
 
--- an answer, its number and its data
+-- an answer, its number, its data, and the total repaired that it carries: "a notice 0", as none and 1
 pub record Said : Type 0 where
   pub find : Find
   pub number : Option ℕ
   pub bytes : List ℕ
+  pub repaired : ℕ
 
-abbrev pub saidOf : Find → List ℕ → List ℕ → Said
-saidOf f tp m = record { find = f; number = findNumber f; bytes = dataOf f tp m }
+abbrev pub saidOf : Find → ℕ → List ℕ → List ℕ → Said
+saidOf f e tp m = record { find = f; number = findNumber f; bytes = dataOf f tp m; repaired = e }
 
 abbrev pub says : Find → Option ℕ → Said
-says f n = record { find = f; number = n; bytes = [] }
+says f n = record { find = f; number = n; bytes = []; repaired = 0 }
+
+abbrev pub hands : Find → Tag → List ℕ → Said
+hands f t d = record { find = f; number = none; bytes = d; repaired = t .repaired }
 
 -- "the same TP and room are lent until one says none, which ends the TP"; after 1 and 6 to 9 no none follows
 abbrev pub lasts : Find → Bool
@@ -110,7 +114,7 @@ gone r n m = leave r Fresh 0 lost [] free 0 (says (F.Notice n) (some n)) m
 
 abbrev pub holds : Held wire → ℕ
 holds free = 0
-holds (held c d) = length d
+holds (held t d) = length d
 
 abbrev pub pulled : Receiver → Pulled wire → Stage → ℕ → Said → Gave
 pulled r p stage at a = leave r stage at (p .frame) (p .todo) (p .held) (holds (p .held)) a (p .room)
@@ -119,8 +123,8 @@ pulled r p stage at a = leave r stage at (p .frame) (p .todo) (p .held) (holds (
 abbrev pub ordinaryBy : Option (Finding wire) → Receiver → Pulled wire → Gave
 ordinaryBy none r p = pulled r p Fresh 0 (says F.Nothing none)
 ordinaryBy (some (notice n)) r p = pulled r p Plain (p .at) (says (F.Notice n) (some n))
-ordinaryBy (some (low c d)) r p = pulled r p Plain (p .at) (record { find = F.Low c 0 (length d); number = none; bytes = d })
-ordinaryBy (some (ordinary c d)) r p = pulled r p Plain (p .at) (record { find = F.Ordinary c (length d); number = none; bytes = d })
+ordinaryBy (some (low t d)) r p = pulled r p Plain (p .at) (hands (F.Low (t .content) 0 (length d)) t d)
+ordinaryBy (some (ordinary t d)) r p = pulled r p Plain (p .at) (hands (F.Ordinary (t .content) (length d)) t d)
 
 abbrev pub ordinaryCall : Receiver → Pulled wire → Gave
 ordinaryCall r p = ordinaryBy (p .find) r p
@@ -142,7 +146,7 @@ dueCall r offset at tp m = startCall r at (outset wire (frameOf (r .walk .phase)
 abbrev pub lowCall : Lows → Receiver → ℕ → List ℕ → List ℕ → Gave
 lowCall (L.Broken at) r offset tp m = startCall r at (dropped wire 11 (drop at tp)) tp m
 lowCall (L.End at) r offset tp m = dueCall r offset at tp m
-lowCall (L.Gives f more at) r offset tp m = moved r (cond more (Low offset) (Due offset)) at (saidOf f tp m) m
+lowCall (L.Gives f e more at) r offset tp m = moved r (cond more (Low offset) (Due offset)) at (saidOf f e tp m) m
 
 -- AT THE PAYLOAD'S START, with a low-latency part or without
 abbrev pub payloadCall : Bool → Receiver → ℕ → List ℕ → List ℕ → Gave
@@ -178,7 +182,7 @@ callOf r tp m =
 
 -- what a step shows of itself, with the room's bytes behind it
 unfoldable pub stepped : Step → List ℕ → List ℕ → Gave
-stepped q tp m = moved (q .receiver) (q .receiver .stage) (q .receiver .walk .at) (saidOf (q .find) tp m) m
+stepped q tp m = moved (q .receiver) (q .receiver .stage) (q .receiver .walk .at) (saidOf (q .find) (q .about .repaired) tp m) m
 
 -- THE PROMISE of a call: answer, receiver and room are these, and the receiver can be called again
 pub record Gives (g : Gave) (q : Step) (tp m : List ℕ) : Type 0 where

@@ -1,18 +1,27 @@
 -- Reading ordinary bytes one at a time, in or out of step (document 01, "Receiver").
 -- `Code` is all that reading needs to know of a byte and of a header. Assumes nothing.
 use Prim.Native.Nat.{ℕ, zero, suc}
+use mathlib.Core.Path.{_≡_}
 use mathlib.Core.Option.{Option, none, some}
 use mathlib.Core.List.{List, [], _∷_, _++_}
 use Rattle.receiver.specs.declared.kind.Kind.{Kind}
 
--- the type of a byte and of a header; the header that six bytes hold, none beyond repair; what the header says
+-- the type of a byte, of a header, and of what a packet is known by; the header that six bytes hold, none beyond repair;
+-- what the header says; what a packet is known by that begins with it, or goes on with it, and its content: that of its
+-- first EP
 pub record Code : Type 1 where
   pub B : Type 0
   pub H : Type 0
+  pub T : Type 0
   pub decode : List B → Option H
   pub size : H → ℕ
   pub kind : H → Kind
   pub content : H → ℕ
+  pub begin : H → T
+  pub join : T → H → T
+  pub sort : T → ℕ
+  pub begin-sort : (h : H) → sort (begin h) ≡ content h
+  pub join-sort : (t : T) (h : H) → sort (join t h) ≡ sort t
 
 module _ (C : Code) where
   -- where reading stands: out of step; between two EPs; in a header or in the data of an EP, of which so many bytes are

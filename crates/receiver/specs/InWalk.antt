@@ -17,14 +17,14 @@ use Rattle.receiver.specs.declared.walk.Turn.{Turn}
 use Rattle.receiver.specs.declared.walk.Turn.the-variants.{More, Stop}
 use Rattle.receiver.specs.declared.walk.Walk.{Walk}
 use Rattle.receiver.specs.Join.{Finding, notice, ordinary}
-use Rattle.receiver.specs.Low.{wire}
+use Rattle.receiver.specs.Low.{wire, tagOf}
 use Rattle.receiver.specs.Pull.{Pulled}
 use Rattle.receiver.specs.State.{frameOf, todoOf, heldOf, pullOf, Sound}
 use Rattle.receiver.specs.Turns.{toil}
 
 abbrev pub pasted : Kept → List ℕ → List ℕ → ℕ → List ℕ
 pasted Empty m ds n = m
-pasted (Of c k) m ds n = paste m k ds n
+pasted (Of c e k) m ds n = paste m k ds n
 
 abbrev pub roomBy : Phase → ℕ → Kept → List ℕ → List ℕ → List ℕ
 roomBy Lost at k tp m = m
@@ -39,7 +39,7 @@ roomOf w tp m = roomBy (w .phase) (w .at) (w .kept) tp m
 abbrev pub findOf : Gain → List ℕ → Option (Finding wire)
 findOf Nothing m = none
 findOf (Notice n) m = some (notice n)
-findOf (Packet c n) m = some (ordinary c (take n m))
+findOf (Packet c e n) m = some (ordinary (tagOf c e) (take n m))
 
 -- the call that was answered
 unfoldable pub shown : Answer → List ℕ → Pulled wire
@@ -56,7 +56,7 @@ shown a m = record {
 abbrev pub Gained : ℕ → Gain → Type 0
 Gained cap Nothing = 0 ≤ 0
 Gained cap (Notice n) = 0 ≤ 0
-Gained cap (Packet c n) = n + 0 ≤ cap
+Gained cap (Packet c e n) = n + 0 ≤ cap
 
 -- one turn of a call: from w with the room's bytes m to x with those of m′
 pub record On (cap : ℕ) (w : Walk) (tp m : List ℕ) (x : Walk) (m′ : List ℕ) : Type 0 where

@@ -11,15 +11,15 @@ use Rattle.receiver.specs.declared.kind.Kind.the-variants.{Fill, Reserve
 use Rattle.receiver.specs.Frame.{Code, Event, lose, gap, opened, entered, fed, closed}
 
 module _ (C : Code) where
-  -- a notice of this number; a packet of this content
+  -- a notice of this number; a packet
   pub data Finding : Type 0 where
     notice : ℕ → Finding
-    low ordinary : ℕ → List (C .B) → Finding
+    low ordinary : C .T → List (C .B) → Finding
 
-  -- what is kept: nothing, or the bytes so far of a packet of this content
+  -- what is kept: nothing, or the bytes so far of a packet, and what it is known by
   pub data Held : Type 0 where
     free : Held
-    held : ℕ → List (C .B) → Held
+    held : C .T → List (C .B) → Held
 
   abbrev pub Took : Type 0
   Took = Held × Option Finding
@@ -27,12 +27,12 @@ module _ (C : Code) where
   -- 14: "a complete, first or fill EP while one is held"
   abbrev pub broken : Held → Took
   broken free = (free, none)
-  broken (held c d) = (free, some (notice 14))
+  broken (held t d) = (free, some (notice 14))
 
   -- 14: "middle or last, not fill, without a held series of its content"
   abbrev pub goes-on : Held → ℕ → Took
   goes-on free c = (free, some (notice 14))
-  goes-on (held c₀ d) c = cond (eqb c₀ c) (held c₀ d, none) (free, some (notice 14))
+  goes-on (held t d) c = cond (eqb (C .sort t) c) (held t d, none) (free, some (notice 14))
 
   -- a header is whole
   abbrev pub meets : Kind → Held → ℕ → Took
@@ -46,11 +46,11 @@ module _ (C : Code) where
   -- a data byte. Inside an EP nothing kept means that it is passed over
   abbrev pub grown : Held → C .B → Held
   grown free b = free
-  grown (held c d) b = held c (d ++ b ∷ [])
+  grown (held t d) b = held t (d ++ b ∷ [])
 
   abbrev pub handed : Held → Took
   handed free = (free, none)
-  handed (held c d) = (free, some (ordinary c d))
+  handed (held t d) = (free, some (ordinary t d))
 
   -- "Complete: handed out when its last byte is read. First: held. Middle and last: joined ..; last then hands out."
   abbrev pub finish : Kind → Held → Took
@@ -68,7 +68,7 @@ module _ (C : Code) where
   -- "An ordinary packet's data are copied as they are read, from the room's first byte on; no other room byte changes."
   abbrev pub put : Held → C .B → List (C .B) → List (C .B)
   put free b m = m
-  put (held c d) b m = set m (length d) b
+  put (held t d) b m = set m (length d) b
 
   abbrev pub stored : Held → Event C → List (C .B) → List (C .B)
   stored s (lose n) m = m
@@ -81,21 +81,21 @@ module _ (C : Code) where
 -- room: how many bytes it has
 module _ (C : Code) (room : ℕ) where
   -- 15: "held bytes + length > room": "SP dropped, EP passed over"
-  abbrev pub fits : ℕ → ℕ → List (C .B) → Took C
-  fits n c d = cond (leb (length d + n) room) (held c d, none) (free, some (notice 15))
+  abbrev pub fits : ℕ → C .T → List (C .B) → Took C
+  fits n t d = cond (leb (length d + n) room) (held t d, none) (free, some (notice 15))
 
-  abbrev pub further : Held C → ℕ → Took C
-  further free n = (free, none)
-  further (held c d) n = fits n c d
+  abbrev pub further : C .H → Held C → Took C
+  further h free = (free, none)
+  further h (held t d) = fits (C .size h) (C .join t h) d
 
   -- the way into an EP. 16: "content 7 to 15: EP passed over"; fill is passed over; a middle or last that got 14 too
-  abbrev pub admit : Kind → Held C → ℕ → ℕ → Took C
-  admit Fill s c n = (free, none)
-  admit Reserved s c n = (free, some (notice 16))
-  admit Complete s c n = fits n c []
-  admit First s c n = fits n c []
-  admit Middle s c n = further s n
-  admit Last s c n = further s n
+  abbrev pub admit : Kind → C .H → Held C → Took C
+  admit Fill h s = (free, none)
+  admit Reserved h s = (free, some (notice 16))
+  admit Complete h s = fits (C .size h) (C .begin h) []
+  admit First h s = fits (C .size h) (C .begin h) []
+  admit Middle h s = further h s
+  admit Last h s = further h s
 
   -- what an event leaves, and what it gives. Out of step "the unfinished EP and the held fragments are dropped"; a told gap
   -- is no notice
@@ -103,7 +103,7 @@ module _ (C : Code) (room : ℕ) where
   take-in s (lose n) = (free, some (notice n))
   take-in s gap = (free, none)
   take-in s (opened h) = meets C (C .kind h) s (C .content h)
-  take-in s (entered h) = admit (C .kind h) s (C .content h) (C .size h)
+  take-in s (entered h) = admit (C .kind h) h s
   take-in s (fed b) = (grown C s b, none)
   take-in s (closed h) = finish C (C .kind h) s
 

@@ -1,6 +1,7 @@
--- The low-latency part, read as a list of bytes (document 01, "Layouts", "Receiver", and 11, 16).
+-- The low-latency part, read as a list of bytes (document 01, "Layouts", "Receiver", and 11, 16; R-2).
 -- Assumes nothing.
-use Prim.Native.Nat.{ℕ, zero, suc, _+_}
+use Prim.Native.Nat.{ℕ, zero, suc, _+_, min}
+use mathlib.Core.Path.{refl}
 use mathlib.Core.Bool.{Bool, true, false, cond}
 use mathlib.Core.Option.{Option, none, some}
 use mathlib.Core.List.{List, [], _∷_, _++_}
@@ -8,7 +9,7 @@ use lib.Dec.{ltb}
 use lib.ListN.{length, take, drop, getD}
 use Rattle.golay.specs.declared.End.{End}
 use Rattle.golay.specs.declared.End.the-variants.{Zeros, Ones, Neither}
-use Rattle.golay.specs.Answers.{endOf}
+use Rattle.golay.specs.Answers.{endOf, endFlips}
 use Rattle.wire.specs.declared.Header.{Header}
 use Rattle.wire.specs.Reading.{headerOf}
 use Rattle.receiver.specs.declared.kind.Kind.{Kind}
@@ -19,15 +20,39 @@ use Rattle.receiver.specs.Kind.{kindOf}
 use Rattle.receiver.specs.Frame.{Code}
 use Rattle.receiver.specs.Join.{Finding, notice, low}
 
+-- a packet is known by its content and by "the total repaired in its EP headers (and end byte, if low-latency)"
+pub record Tag : Type 0 where
+  pub content : ℕ
+  pub repaired : ℕ
+
+abbrev pub tagOf : ℕ → ℕ → Tag
+tagOf c n = record { content = c; repaired = n }
+
+-- "A total stops at 4,294,967,295."
+abbrev pub totalOf : ℕ → ℕ → ℕ
+totalOf n flips = min (n + flips) 4294967295
+
+abbrev pub beginOf : Header → Tag
+beginOf h = tagOf (h .content) (h .flips)
+
+abbrev pub joinOf : Tag → Header → Tag
+joinOf t h = tagOf (t .content) (totalOf (t .repaired) (h .flips))
+
 -- the header code of the wire, over plain bytes
 abbrev pub wire : Code
 wire = record {
   B = ℕ;
   H = Header;
+  T = Tag;
   decode = headerOf;
   size = λ (h : Header). h .size;
   kind = kindOf;
   content = λ (h : Header). h .content;
+  begin = beginOf;
+  join = joinOf;
+  sort = λ (t : Tag). t .content;
+  begin-sort = λ h. refl;
+  join-sort = λ t h. refl;
 }
 
 -- "each LLEP followed by its end byte, FF if another follows, else 00"
@@ -36,8 +61,15 @@ ended Zeros h = Whole h false
 ended Ones h = Whole h true
 ended Neither h = Broken
 
+-- the header, with the flips of this end byte counted in
+abbrev pub counting : ℕ → Header → Header
+counting b h = record { content = h .content; fragment = h .fragment; size = h .size; flips = h .flips + endFlips b }
+
+abbrev pub endsBy : ℕ → Header → Llep
+endsBy b h = ended (endOf b) (counting b h)
+
 unfoldable pub sized : Header → List ℕ → Llep
-sized h bs = cond (ltb (length bs) (7 + h .size)) Broken (ended (endOf (getD bs (6 + h .size) 0)) h)
+sized h bs = cond (ltb (length bs) (7 + h .size)) Broken (endsBy (getD bs (6 + h .size) 0) h)
 
 abbrev pub begins : Option Header → List ℕ → Llep
 begins none bs = Broken
@@ -52,7 +84,7 @@ llep bs = cond (ltb (length bs) 7) Broken (begins (headerOf (take 6 bs)) bs)
 -- 16: "an LLEP with a fragment flag not 0 (fill excepted)", or with content 7 to 15; fill is passed over
 abbrev pub given : Kind → Header → List ℕ → List (Finding wire)
 given K.Fill h bs = []
-given K.Complete h bs = low (h .content) (take (h .size) (drop 6 bs)) ∷ []
+given K.Complete h bs = low (beginOf h) (take (h .size) (drop 6 bs)) ∷ []
 given K.Reserved h bs = notice 16 ∷ []
 given K.First h bs = notice 16 ∷ []
 given K.Middle h bs = notice 16 ∷ []

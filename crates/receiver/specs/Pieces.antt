@@ -40,34 +40,42 @@ use Rattle.receiver.specs.declared.walk.Turn.the-variants.{More, Stop}
 use Rattle.receiver.specs.declared.walk.Walk.{Walk}
 use Rattle.receiver.specs.Kind.{kindOf}
 use Rattle.receiver.specs.Low.{llep}
-use Rattle.receiver.specs.Lows.{toldOf}
+use Rattle.receiver.specs.Lows.{toldOf, repairedOf}
 use Rattle.receiver.specs.Outset.{placeOf, setOutOf, uponOf}
 use Rattle.receiver.specs.Turns.{advanceOf}
 
--- the same receiver in this stage, reading at this place, in this phase and with this kept; and a find
-abbrev pub stepOf : Receiver → Stage → ℕ → Phase → Kept → Find → Step
-stepOf r s at p k f = record {
+-- the same receiver in this stage, reading at this place, in this phase and with this kept; a find, and the total that it carries
+abbrev pub stepWith : Receiver → Stage → ℕ → Phase → Kept → Find → ℕ → Step
+stepWith r s at p k f e = record {
   receiver = record { size = r .size; stream = r .stream; limit = r .limit; stage = s; walk = record { at = at; phase = p; kept = k } };
   find = f;
+  about = record { repaired = e };
 }
+
+abbrev pub stepOf : Receiver → Stage → ℕ → Phase → Kept → Find → Step
+stepOf r s at p k f = stepWith r s at p k f 0
+
+abbrev pub sameOf : Receiver → Find → Step
+sameOf r f = record { receiver = r; find = f; about = record { repaired = 0 } }
 
 abbrev pub pieceOf : ℕ → ℕ → Role → Piece
 pieceOf from to role = record { from = from; to = to; role = role }
 
 -- a piece with a find, and one without
 abbrev pub gaveOf : Step → Piece → Turned
-gaveOf q p = record { receiver = q .receiver; piece = p; told = T.Gives (q .find) }
+gaveOf q p = record { receiver = q .receiver; piece = p; told = T.Gives (q .find); about = q .about }
 
-abbrev pub wentOf : Receiver → Stage → ℕ → Phase → Kept → Piece → Told → Turned
-wentOf r s at f k p t = record {
+abbrev pub wentOf : Receiver → Stage → ℕ → Phase → Kept → Piece → Told → ℕ → Turned
+wentOf r s at f k p t e = record {
   receiver = record { size = r .size; stream = r .stream; limit = r .limit; stage = s; walk = record { at = at; phase = f; kept = k } };
   piece = p;
   told = t;
+  about = record { repaired = e };
 }
 
 -- 6, 8: nothing is read
 abbrev pub sameTurn : Receiver → ℕ → Turned
-sameTurn r n = gaveOf (record { receiver = r; find = F.Notice n }) (pieceOf 0 0 R.Passed)
+sameTurn r n = gaveOf (sameOf r (F.Notice n)) (pieceOf 0 0 R.Passed)
 
 -- THE TP'S HEADER: "the checks of .. 8, 7, 9 in this order"
 abbrev pub saysOf : Option ℕ → Top
@@ -84,7 +92,7 @@ topOf stream tp =
 abbrev pub topTurn : Top → Receiver → ℕ → Turned
 topTurn Elsewhere r len = sameTurn r 8
 topTurn (Dropped n) r len = gaveOf (stepOf r Fresh 0 Lost Empty (F.Notice n)) (pieceOf 4 len R.Passed)
-topTurn (Says low o) r len = wentOf r (cond low (Low o) (Due o)) 4 (r .walk .phase) (r .walk .kept) (pieceOf 4 4 R.Passed) T.More
+topTurn (Says low o) r len = wentOf r (cond low (Low o) (Due o)) 4 (r .walk .phase) (r .walk .kept) (pieceOf 4 4 R.Passed) T.More 0
 
 -- 10, 11, 21: the rest is dropped
 abbrev pub dropTurn : Receiver → ℕ → Role → ℕ → Turned
@@ -95,11 +103,11 @@ abbrev pub llepTurn : Llep → Receiver → ℕ → ℕ → Turned
 llepTurn L.Broken r o len = dropTurn r len R.Broken 11
 llepTurn (L.Whole h more) r o len =
     wentOf r (cond more (Low o) (Due o)) (r .walk .at + 7 + h .size) (r .walk .phase) (r .walk .kept)
-    (pieceOf (r .walk .at) (r .walk .at + 7 + h .size) (R.Llep h)) (toldOf (kindOf h) h (r .walk .at))
+    (pieceOf (r .walk .at) (r .walk .at + 7 + h .size) (R.Llep h)) (toldOf (kindOf h) h (r .walk .at)) (repairedOf (kindOf h) h)
 
 -- THE OUTSET: in step at once, or the bytes before the offset passed over
 abbrev pub outTurn : Start → Receiver → ℕ → ℕ → Turned
-outTurn (Reads x) r n len = wentOf r Plain (x .at) (x .phase) (x .kept) (pieceOf (r .walk .at) (x .at) R.Passed) T.More
+outTurn (Reads x) r n len = wentOf r Plain (x .at) (x .phase) (x .kept) (pieceOf (r .walk .at) (x .at) R.Passed) T.More 0
 outTurn (Loses i) r n len =
     gaveOf (stepOf r Plain (r .walk .at + n) (uponOf (r .walk .at + n) len) Empty (F.Notice i)) (pieceOf (r .walk .at) (r .walk .at + n) R.Passed)
 
@@ -111,7 +119,7 @@ dueTurn (Behind n) r tp = outTurn (setOutOf (r .walk) n tp) r n (length tp)
 abbrev pub tellOf : Gain → Receiver → Walk → Step
 tellOf G.Nothing r w = stepOf r Fresh 0 (w .phase) (w .kept) F.Nothing
 tellOf (G.Notice n) r w = stepOf r Plain (w .at) (w .phase) (w .kept) (F.Notice n)
-tellOf (G.Packet c n) r w = stepOf r Plain (w .at) (w .phase) (w .kept) (F.Ordinary c n)
+tellOf (G.Packet c e n) r w = stepWith r Plain (w .at) (w .phase) (w .kept) (F.Ordinary c n) e
 
 -- what a turn from one phase to another read
 abbrev pub headRole : Phase → Role
@@ -122,7 +130,7 @@ headRole (Body h n) = R.Whole h
 
 abbrev pub dataRole : Kept → Role
 dataRole Empty = R.Skipped
-dataRole (Of c n) = R.Kept n
+dataRole (Of c e n) = R.Kept n
 
 abbrev pub roleOf : Phase → Kept → Phase → Role
 roleOf Lost k q = R.Passed
@@ -134,7 +142,7 @@ abbrev pub readOf : Walk → Walk → Piece
 readOf w x = pieceOf (w .at) (x .at) (roleOf (w .phase) (w .kept) (x .phase))
 
 abbrev pub ordinaryTurn : Turn → Receiver → Turned
-ordinaryTurn (More x) r = wentOf r Plain (x .at) (x .phase) (x .kept) (readOf (r .walk) x) T.More
+ordinaryTurn (More x) r = wentOf r Plain (x .at) (x .phase) (x .kept) (readOf (r .walk) x) T.More 0
 ordinaryTurn (Stop a) r = gaveOf (tellOf (a .gain) r (a .walk)) (readOf (r .walk) (a .walk))
 
 abbrev pub stageTurn : Stage → Receiver → List ℕ → Turned

@@ -14,7 +14,7 @@ use Rattle.receiver.specs.declared.walk.Walk.{Walk}
 use Rattle.receiver.specs.Frame.{Frame, lost, idle, head, Event, entered, within, ending}
 use Rattle.receiver.specs.Forecast.{Start}
 use Rattle.receiver.specs.Join.{Held, free, held}
-use Rattle.receiver.specs.Low.{wire}
+use Rattle.receiver.specs.Low.{wire, tagOf}
 use Rattle.receiver.specs.Pull.{Pulled, pull, meet}
 
 -- with these bytes of a header read
@@ -38,11 +38,11 @@ todoOf (Body h n) = ending wire h n
 -- what is kept stands at the room's start
 abbrev pub heldOf : Kept → List ℕ → Held wire
 heldOf Empty m = free
-heldOf (Of c n) m = held c (take n m)
+heldOf (Of c e n) m = held (tagOf c e) (take n m)
 
 abbrev pub keeps : Kept → ℕ
 keeps Empty = 0
-keeps (Of c n) = n
+keeps (Of c e n) = n
 
 -- the call that a walk among ordinary bytes asks for
 unfoldable pub pullOf : ℕ → Walk → List ℕ → List ℕ → Pulled wire
@@ -55,7 +55,7 @@ from cap t w tp m = pull wire cap (t .frame) (w .at + t .past) (meet wire cap (h
 -- with n more bytes the packet kept stays in the room
 abbrev pub Roomy : ℕ → Kept → ℕ → Type 0
 Roomy cap Empty n = 0 ≤ 0
-Roomy cap (Of c k) n = k + n ≤ cap
+Roomy cap (Of c e k) n = k + n ≤ cap
 
 -- and its length is a number of the machine
 abbrev pub Counts : Kept → ℕ → Type 0

@@ -5,6 +5,7 @@ use mathlib.Core.Path.{_≡_}
 use mathlib.Core.List.{List}
 use lib.ListN.{length, drop}
 use lib.Seq.{paste}
+use Rattle.receiver.specs.declared.About.{About}
 use Rattle.receiver.specs.declared.Receiver.{Receiver}
 use Rattle.receiver.specs.declared.Role.{Role}
 use Rattle.receiver.specs.declared.Role.the-variants as R
@@ -83,9 +84,9 @@ unfoldable pub putOf : Piece → List ℕ → List ℕ → List ℕ
 putOf p tp m = putBy (p .role) (p .from) (p .to) tp m
 
 -- what a turn makes of the call, whatever room is lent: its answer, or the same call still to be made
-abbrev pub Makes : Told → Receiver → List ℕ → List ℕ → Receiver → List ℕ → Type 0
-Makes T.More r tp m q m′ = (length m′ ≡ q .limit) × (callOf q tp m′ ≡ callOf r tp m)
-Makes (T.Gives f) r tp m q m′ = Gives (callOf r tp m) (record { receiver = q; find = f }) tp m′
+abbrev pub Makes : Told → About → Receiver → List ℕ → List ℕ → Receiver → List ℕ → Type 0
+Makes T.More a r tp m q m′ = (length m′ ≡ q .limit) × (callOf q tp m′ ≡ callOf r tp m)
+Makes (T.Gives f) a r tp m q m′ = Gives (callOf r tp m) (record { receiver = q; find = f; about = a }) tp m′
 
 -- where reading stands in the payload
 abbrev pub standsBy : Stage → Walk → ℕ

@@ -22,6 +22,7 @@ use Rattle.receiver.specs.declared.walk.Walk.{Walk}
 use Rattle.receiver.specs.declared.walk.Turn.{Turn}
 use Rattle.receiver.specs.declared.walk.Turn.the-variants.{More, Stop}
 use Rattle.receiver.specs.Kind.{kindOf}
+use Rattle.receiver.specs.Low.{Tag, tagOf, beginOf, joinOf}
 
 abbrev pub walkAt : ℕ → Phase → Kept → Walk
 walkAt at p k = record { at = at; phase = p; kept = k }
@@ -36,12 +37,12 @@ stops at p k g = Stop (record { walk = walkAt at p k; gain = g })
 -- A HEADER IS WHOLE. 14: "middle or last, not fill, without a held series of its content"
 abbrev pub holdsOf : Kept → ℕ → Bool
 holdsOf Empty c = false
-holdsOf (Of c₀ n) c = eqb c₀ c
+holdsOf (Of c₀ e n) c = eqb c₀ c
 
 -- 14: "or a complete, first or fill EP while one is held"
 abbrev pub emptyOf : Kept → Bool
 emptyOf Empty = true
-emptyOf (Of c n) = false
+emptyOf (Of c e n) = false
 
 -- whether it gets no 14
 abbrev pub meetsOf : Kind → Kept → ℕ → Bool
@@ -52,21 +53,24 @@ meetsOf First k c = emptyOf k
 meetsOf Middle k c = holdsOf k c
 meetsOf Last k c = holdsOf k c
 
+abbrev pub keptAs : Tag → ℕ → Kept
+keptAs t n = Of (t .content) (t .repaired) n
+
 -- 15: "held bytes + length > room": "SP dropped, EP passed over"
-unfoldable pub fitsOf : ℕ → Header → ℕ → ℕ → ℕ → Turn
-fitsOf at h c n cap =
-    cond (leb (h .size) (cap - n)) (goes at (Body h (h .size)) (Of c n)) (stops at (Body h (h .size)) Empty (Notice 15))
+unfoldable pub fitsOf : ℕ → Header → Tag → ℕ → ℕ → Turn
+fitsOf at h t n cap =
+    cond (leb (h .size) (cap - n)) (goes at (Body h (h .size)) (keptAs t n)) (stops at (Body h (h .size)) Empty (Notice 15))
 
 abbrev pub furtherOf : ℕ → Header → Kept → ℕ → Turn
 furtherOf at h Empty cap = goes at (Body h (h .size)) Empty
-furtherOf at h (Of c n) cap = fitsOf at h c n cap
+furtherOf at h (Of c e n) cap = fitsOf at h (joinOf (tagOf c e) h) n cap
 
 -- the way into an EP. 16: "content 7 to 15: EP passed over"; fill is passed over; a middle or last that got 14 too
 abbrev pub admitOf : Kind → ℕ → Header → Kept → ℕ → Turn
 admitOf Fill at h k cap = goes at (Body h (h .size)) Empty
 admitOf Reserved at h k cap = stops at (Body h (h .size)) Empty (Notice 16)
-admitOf Complete at h k cap = fitsOf at h (h .content) 0 cap
-admitOf First at h k cap = fitsOf at h (h .content) 0 cap
+admitOf Complete at h k cap = fitsOf at h (beginOf h) 0 cap
+admitOf First at h k cap = fitsOf at h (beginOf h) 0 cap
 admitOf Middle at h k cap = furtherOf at h k cap
 admitOf Last at h k cap = furtherOf at h k cap
 
@@ -83,7 +87,7 @@ wholeOf at (some h) k cap = openedOf at h k cap
 -- AN EP'S END. "Complete: handed out when its last byte is read. First: held. Middle and last: joined ..; last then hands out."
 abbrev pub handedOf : ℕ → Kept → Turn
 handedOf at Empty = goes at (Head 0 0) Empty
-handedOf at (Of c n) = stops at (Head 0 0) Empty (Packet c n)
+handedOf at (Of c e n) = stops at (Head 0 0) Empty (Packet c e n)
 
 abbrev pub finishOf : Kind → ℕ → Kept → Turn
 finishOf Fill at k = goes at (Head 0 0) k
@@ -96,7 +100,7 @@ finishOf Last at k = handedOf at k
 -- what is kept, with so many bytes more
 abbrev pub grownBy : ℕ → Kept → Kept
 grownBy n Empty = Empty
-grownBy n (Of c k) = Of c (k + n)
+grownBy n (Of c e k) = Of c e (k + n)
 
 -- reading a header on, of which so many bytes are read, with this number; the TP's end may cut it
 unfoldable pub headerTurn : List ℕ → ℕ → ℕ → ℕ → Kept → ℕ → Turn

@@ -74,10 +74,7 @@ fn first(r: Receiver, tp: &[u8]) -> Begun
     ensures { λ q. ⌜ Begins (firstCall r (now (tp .entry))) r (now (tp .entry)) q ⌝ }
 {
     match read_top(r.stream, tp) {
-        Top::Elsewhere => Begun::Gives(Step {
-            receiver: r,
-            find: Find::Notice(8),
-        }),
+        Top::Elsewhere => Begun::Gives(stages::step_same(r, Find::Notice(8))),
         Top::Dropped(number) => drop_all(r, number),
         Top::Says { low, offset } => Begun::Part { low, offset, at: 4 },
     }

@@ -3,6 +3,7 @@ ghost use mathlib.Core.Path.{_≡_};
 ghost use Prim.Native.Nat.{_≤_};
 ghost use Rattle.wire.specs.Reading.{headerIn};
 ghost use Rattle.receiver.specs.Kind.{kindOf};
+ghost use Rattle.receiver.specs.Low.{tagOf, totalOf};
 ghost use Rattle.receiver.specs.State.{Roomy};
 ghost use Rattle.receiver.specs.Turns.{goes, stops, holdsOf, emptyOf, meetsOf, openedOf, wholeOf, fitsOf, furtherOf, admitOf, handedOf, finishOf};
 use crate::kind;
@@ -36,7 +37,11 @@ fn empty(kept: Kept) -> bool
 {
     match kept {
         Kept::Empty => true,
-        Kept::Of { content: _, len: _ } => false,
+        Kept::Of {
+            content: _,
+            repaired: _,
+            len: _,
+        } => false,
     }
 }
 
@@ -45,7 +50,11 @@ fn holds(kept: Kept, content: u8) -> bool
 {
     match kept {
         Kept::Empty => false,
-        Kept::Of { content: c, len: _ } => c == content,
+        Kept::Of {
+            content: c,
+            repaired: _,
+            len: _,
+        } => c == content,
     }
 }
 
@@ -62,15 +71,31 @@ fn meets(kind: Kind, kept: Kept, content: u8) -> bool
     }
 }
 
-// Into an EP whose data are kept behind len bytes of this content, if the room has place for them.
-fn fits(at: usize, header: Header, content: u8, len: usize, cap: usize) -> Turn
+// The total of a packet that goes on with this EP: it stops at the most that it can be.
+fn joined(repaired: u64, flips: u8) -> u64
+    ensures { λ r. ⌜ r ≡ totalOf repaired flips ⌝ }
+{
+    let more = flips as u64;
+    if repaired <= 0xFFFF_FFFF - more {
+        return repaired + more;
+    }
+    0xFFFF_FFFF
+}
+
+// Into an EP whose data are kept behind len bytes of this packet, if the room has place for them.
+fn fits(at: usize, header: Header, content: u8, repaired: u64, len: usize, cap: usize) -> Turn
     requires { ⌜ len ≤ cap ⌝ }
-    ensures { λ r. ⌜ r ≡ fitsOf at header content len cap ⌝ }
+    ensures { λ r. ⌜ r ≡ fitsOf at header (tagOf content repaired) len cap ⌝ }
 {
     let size = header.size;
     let body = Phase::Body { header, left: size };
     if size <= cap - len {
-        return more(at, body, Kept::Of { content, len });
+        let kept = Kept::Of {
+            content,
+            repaired,
+            len,
+        };
+        return more(at, body, kept);
     }
     stop(at, body, Kept::Empty, Gain::Notice(15))
 }
@@ -82,7 +107,14 @@ fn further(at: usize, header: Header, kept: Kept, cap: usize) -> Turn
     let size = header.size;
     match kept {
         Kept::Empty => more(at, Phase::Body { header, left: size }, kept),
-        Kept::Of { content, len } => fits(at, header, content, len, cap),
+        Kept::Of {
+            content,
+            repaired,
+            len,
+        } => {
+            let total = joined(repaired, header.flips);
+            fits(at, header, content, total, len, cap)
+        }
     }
 }
 
@@ -93,12 +125,13 @@ pub fn admit(at: usize, header: Header, kept: Kept, cap: usize) -> Turn
 {
     let size = header.size;
     let content = header.content;
+    let flips = header.flips as u64;
     let inside = Phase::Body { header, left: size };
     match kind::kind_of(header) {
         Kind::Fill => more(at, inside, Kept::Empty),
         Kind::Reserved => stop(at, inside, Kept::Empty, Gain::Notice(16)),
-        Kind::Complete => fits(at, header, content, 0, cap),
-        Kind::First => fits(at, header, content, 0, cap),
+        Kind::Complete => fits(at, header, content, flips, 0, cap),
+        Kind::First => fits(at, header, content, flips, 0, cap),
         Kind::Middle => further(at, header, kept, cap),
         Kind::Last => further(at, header, kept, cap),
     }
@@ -132,7 +165,18 @@ fn handed(at: usize, kept: Kept) -> Turn
     let next = Phase::Head { have: 0, word: 0 };
     match kept {
         Kept::Empty => more(at, next, kept),
-        Kept::Of { content, len } => stop(at, next, Kept::Empty, Gain::Packet { content, len }),
+        Kept::Of {
+            content,
+            repaired,
+            len,
+        } => {
+            let packet = Gain::Packet {
+                content,
+                repaired,
+                len,
+            };
+            stop(at, next, Kept::Empty, packet)
+        }
     }
 }
 

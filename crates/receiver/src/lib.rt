@@ -83,6 +83,7 @@ pub struct Turned {
     pub receiver: Receiver,
     pub piece: Piece,
     pub told: Told,
+    pub about: About,
 }
 
 pub enum Opened {
@@ -90,9 +91,16 @@ pub enum Opened {
     Ready(Receiver),
 }
 
+// What a find carries beside it: how many bits were repaired in the EP headers of a packet, and in its end byte if it is
+// low-latency; 0 for any other find.
+pub struct About {
+    pub repaired: u64,
+}
+
 pub struct Step {
     pub receiver: Receiver,
     pub find: Find,
+    pub about: About,
 }
 
 // Out of step, before a TP.
@@ -137,16 +145,10 @@ pub fn next(r: Receiver, tp: &[u8], room: &mut [u8]) -> Step
     ensures { λ q. ⌜ Gives (callOf r (now (tp .entry)) (now (room .entry))) q (now (tp .entry)) (now (room .exit)) ⌝ }
 {
     if room.len() != r.limit {
-        return Step {
-            receiver: r,
-            find: Find::Refused,
-        };
+        return stages::step_same(r, Find::Refused);
     }
     if tp.len() != r.size {
-        return Step {
-            receiver: r,
-            find: Find::Notice(6),
-        };
+        return stages::step_same(r, Find::Notice(6));
     }
     match stages::take_up(r, tp) {
         Course::Gives(step) => step,

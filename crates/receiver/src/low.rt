@@ -4,8 +4,8 @@ ghost use Prim.Native.Nat.{_+_, _≤_};
 ghost use lib.ListN.{length, drop};
 ghost use Rattle.golay.specs.Answers.{endOf};
 ghost use Rattle.receiver.specs.Kind.{kindOf};
-ghost use Rattle.receiver.specs.Low.{ended, sized, llep};
-ghost use Rattle.receiver.specs.Lows.{gives, goneBy, toldOf, passedOf, oneOf, lowsOf};
+ghost use Rattle.receiver.specs.Low.{ended, counting, sized, llep};
+ghost use Rattle.receiver.specs.Lows.{gives, goneBy, toldOf, repairedOf, passedOf, oneOf, lowsOf};
 use crate::Find;
 use crate::Told;
 use crate::kind;
@@ -20,16 +20,35 @@ pub enum Llep {
     Whole { header: Header, more: bool },
 }
 
-// What a walk comes to: the broken place; the part's end; or a find, whether another LLEP follows, and the place behind it.
+// What a walk comes to: the broken place; the part's end; or a find, the total that it carries, whether another LLEP
+// follows, and the place behind it.
 pub enum Lows {
     Broken(usize),
     End(usize),
-    Gives { find: Find, more: bool, end: usize },
+    Gives {
+        find: Find,
+        repaired: u64,
+        more: bool,
+        end: usize,
+    },
 }
 
 pub enum One {
     Stop(Lows),
     More(usize),
+}
+
+// The header, with the flips of the end byte counted in.
+fn counted(b: u8, header: Header) -> Header
+    requires { ⌜ header .flips ≤ 8 ⌝ }
+    ensures { λ r. ⌜ r ≡ counting b header ⌝ }
+{
+    Header {
+        content: header.content,
+        fragment: header.fragment,
+        size: header.size,
+        flips: header.flips + golay::end_flips(b),
+    }
 }
 
 fn ends(b: u8, header: Header) -> Llep
@@ -46,7 +65,7 @@ fn ends(b: u8, header: Header) -> Llep
 }
 
 fn closed(tp: &[u8], at: usize, header: Header) -> Llep
-    requires { ⌜ at + 7 ≤ length (now tp) ⌝ }
+    requires { ⌜ (at + 7 ≤ length (now tp)) × (header .flips ≤ 8) ⌝ }
     ensures { λ r. ⌜ r ≡ sized header (drop at (now (tp .entry))) ⌝ }
 {
     let size = header.size;
@@ -54,7 +73,8 @@ fn closed(tp: &[u8], at: usize, header: Header) -> Llep
         return Llep::Broken;
     }
     let last = at + 6 + size;
-    ends(tp[last], header)
+    let b = tp[last];
+    ends(b, counted(b, header))
 }
 
 // The LLEP at `at`.
@@ -80,10 +100,15 @@ fn gone(more: bool, end: usize) -> One
     One::Stop(Lows::End(end))
 }
 
-fn give(find: Find, more: bool, end: usize) -> One
-    ensures { λ r. ⌜ r ≡ gives find more end ⌝ }
+fn give(find: Find, repaired: u64, more: bool, end: usize) -> One
+    ensures { λ r. ⌜ r ≡ gives find repaired more end ⌝ }
 {
-    One::Stop(Lows::Gives { find, more, end })
+    One::Stop(Lows::Gives {
+        find,
+        repaired,
+        more,
+        end,
+    })
 }
 
 // What an LLEP that isn't broken tells: fill is silent; a reserved content or a fragment gives 16.
@@ -111,6 +136,20 @@ pub fn told(header: Header, at: usize, len: usize) -> Told
     }
 }
 
+// The total that it carries: none but of a packet.
+pub fn repaired(header: Header) -> u64
+    ensures { λ r. ⌜ r ≡ repairedOf (kindOf header) header ⌝ }
+{
+    match kind::kind_of(header) {
+        Kind::Fill => 0,
+        Kind::Reserved => 0,
+        Kind::Complete => header.flips as u64,
+        Kind::First => 0,
+        Kind::Middle => 0,
+        Kind::Last => 0,
+    }
+}
+
 fn passed(header: Header, more: bool, at: usize, len: usize) -> One
     requires { ⌜ at + 7 + header .size ≤ len ⌝ }
     ensures { λ r. ⌜ r ≡ passedOf (kindOf header) header more at ⌝ }
@@ -119,7 +158,7 @@ fn passed(header: Header, more: bool, at: usize, len: usize) -> One
     let end = at + 7 + size;
     match told(header, at, len) {
         Told::More => gone(more, end),
-        Told::Gives(find) => give(find, more, end),
+        Told::Gives(find) => give(find, repaired(header), more, end),
     }
 }
 

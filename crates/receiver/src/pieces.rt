@@ -8,6 +8,7 @@ ghost use Rattle.receiver.specs.Low.{llep};
 ghost use Rattle.receiver.specs.Turns.{advanceOf};
 ghost use Rattle.receiver.specs.Outset.{placeOf, setOutOf};
 ghost use Rattle.receiver.specs.Pieces.{topOf, pieceOf, readOf, gaveOf, wentOf, sameTurn, topTurn, dropTurn, llepTurn, outTurn, dueTurn, headRole, dataRole, roleOf, ordinaryTurn};
+use crate::About;
 use crate::Find;
 use crate::Piece;
 use crate::Receiver;
@@ -36,15 +37,17 @@ fn gave(step: Step, piece: Piece) -> Turned
 {
     let receiver = step.receiver;
     let find = step.find;
+    let about = step.about;
     Turned {
         receiver,
         piece,
         told: Told::Gives(find),
+        about,
     }
 }
 
-fn went(r: Receiver, stage: Stage, walk: Walk, piece: Piece, told: Told) -> Turned
-    ensures { λ q. ⌜ q ≡ wentOf r stage (walk .at) (walk .phase) (walk .kept) piece told ⌝ }
+fn went(r: Receiver, stage: Stage, walk: Walk, piece: Piece, told: Told, repaired: u64) -> Turned
+    ensures { λ q. ⌜ q ≡ wentOf r stage (walk .at) (walk .phase) (walk .kept) piece told repaired ⌝ }
 {
     Turned {
         receiver: Receiver {
@@ -56,6 +59,7 @@ fn went(r: Receiver, stage: Stage, walk: Walk, piece: Piece, told: Told) -> Turn
         },
         piece,
         told,
+        about: About { repaired },
     }
 }
 
@@ -70,7 +74,7 @@ pub fn same(r: Receiver, number: u8) -> Turned
     ensures { λ q. ⌜ q ≡ sameTurn r number ⌝ }
 {
     let find = Find::Notice(number);
-    gave(Step { receiver: r, find }, piece_of(0, 0, Role::Passed))
+    gave(stages::step_same(r, find), piece_of(0, 0, Role::Passed))
 }
 
 // The TP's header.
@@ -91,7 +95,7 @@ pub fn first(r: Receiver, tp: &[u8]) -> Turned
         Top::Says { low, offset } => {
             let stage = stages::low_stage(low, offset);
             let there = Walk { at: 4, phase, kept };
-            went(r, stage, there, piece_of(4, 4, Role::Passed), Told::More)
+            went(r, stage, there, piece_of(4, 4, Role::Passed), Told::More, 0)
         }
     }
 }
@@ -125,7 +129,15 @@ fn behind(r: Receiver, offset: usize, header: Header, more: bool, len: usize) ->
         kept,
     };
     let told = low::told(header, at, len);
-    went(r, stage, there, piece_of(at, end, Role::Llep(header)), told)
+    let repaired = low::repaired(header);
+    went(
+        r,
+        stage,
+        there,
+        piece_of(at, end, Role::Llep(header)),
+        told,
+        repaired,
+    )
 }
 
 // One LLEP with its end byte.
@@ -155,6 +167,7 @@ fn set_about(r: Receiver, n: usize, tp: &[u8]) -> Turned
             x,
             piece_of(at, x.at, Role::Passed),
             Told::More,
+            0,
         ),
         Start::Loses(number) => {
             let start = at + n;
@@ -195,7 +208,11 @@ fn data_role(kept: Kept) -> Role
 {
     match kept {
         Kept::Empty => Role::Skipped,
-        Kept::Of { content: _, len } => Role::Kept(len),
+        Kept::Of {
+            content: _,
+            repaired: _,
+            len,
+        } => Role::Kept(len),
     }
 }
 
@@ -226,7 +243,7 @@ pub fn plain(r: Receiver, tp: &[u8]) -> Turned
 {
     let w = r.walk;
     match walk::advance(w, tp, r.limit) {
-        Turn::More(x) => went(r, Stage::Plain, x, read(w, x), Told::More),
+        Turn::More(x) => went(r, Stage::Plain, x, read(w, x), Told::More, 0),
         Turn::Stop(a) => {
             let x = a.walk;
             gave(stages::tell(r, a), read(w, x))

@@ -12,8 +12,9 @@ ghost use Rattle.receiver.specs.declared.stages.Course.the-variants as C
 ghost use Rattle.receiver.specs.State.{Able};
 ghost use Rattle.receiver.specs.Lows.{lowsOf};
 ghost use Rattle.receiver.specs.Call.{dueCall, stageCall};
-ghost use Rattle.receiver.specs.Pieces.{stepOf, tellOf};
+ghost use Rattle.receiver.specs.Pieces.{sameOf, stepOf, stepWith, tellOf};
 ghost use Rattle.receiver.specs.InStages.{Lent, Leads, setCall, partCall};
+use crate::About;
 use crate::Find;
 use crate::Receiver;
 use crate::Stage;
@@ -37,8 +38,9 @@ pub enum Course {
     Reads(Walk),
 }
 
-pub fn step_to(r: Receiver, stage: Stage, at: usize, phase: Phase, kept: Kept, find: Find) -> Step
-    ensures { λ q. ⌜ q ≡ stepOf r stage at phase kept find ⌝ }
+// A find that carries a total, and where it leaves the receiver.
+fn step_with(r: Receiver, stage: Stage, walk: Walk, found: Find, repaired: u64) -> Step
+    ensures { λ q. ⌜ q ≡ stepWith r stage (walk .at) (walk .phase) (walk .kept) found repaired ⌝ }
 {
     Step {
         receiver: Receiver {
@@ -46,9 +48,28 @@ pub fn step_to(r: Receiver, stage: Stage, at: usize, phase: Phase, kept: Kept, f
             stream: r.stream,
             limit: r.limit,
             stage,
-            walk: Walk { at, phase, kept },
+            walk,
         },
+        find: found,
+        about: About { repaired },
+    }
+}
+
+// A find that carries none.
+pub fn step_to(r: Receiver, stage: Stage, at: usize, phase: Phase, kept: Kept, find: Find) -> Step
+    ensures { λ q. ⌜ q ≡ stepOf r stage at phase kept find ⌝ }
+{
+    step_with(r, stage, Walk { at, phase, kept }, find, 0)
+}
+
+// A find that leaves the receiver as it was.
+pub fn step_same(r: Receiver, find: Find) -> Step
+    ensures { λ q. ⌜ q ≡ sameOf r find ⌝ }
+{
+    Step {
+        receiver: r,
         find,
+        about: About { repaired: 0 },
     }
 }
 
@@ -64,9 +85,13 @@ pub fn tell(r: Receiver, a: Answer) -> Step
     match gain {
         Gain::Nothing => step_to(r, Stage::Fresh, 0, phase, kept, Find::Nothing),
         Gain::Notice(n) => step_to(r, Stage::Plain, at, phase, kept, Find::Notice(n)),
-        Gain::Packet { content, len } => {
+        Gain::Packet {
+            content,
+            repaired,
+            len,
+        } => {
             let find = Find::Ordinary { content, len };
-            step_to(r, Stage::Plain, at, phase, kept, find)
+            step_with(r, Stage::Plain, w, find, repaired)
         }
     }
 }
@@ -139,9 +164,19 @@ fn part(r: Receiver, low: bool, offset: usize, at: usize, tp: &[u8]) -> Course
     match low_walk(low, tp, at) {
         Lows::Broken(_) => drop_rest(r, tp.len(), 11),
         Lows::End(i) => due(r, offset, i, tp),
-        Lows::Gives { find, more, end } => {
+        Lows::Gives {
+            find,
+            repaired,
+            more,
+            end,
+        } => {
             let stage = low_stage(more, offset);
-            Course::Gives(step_to(r, stage, end, phase, kept, find))
+            let there = Walk {
+                at: end,
+                phase,
+                kept,
+            };
+            Course::Gives(step_with(r, stage, there, find, repaired))
         }
     }
 }

@@ -19,10 +19,15 @@ pub enum Phase {
     Body { header: Header, left: usize },
 }
 
-// What is kept at the room's start. Inside an EP nothing kept means that it is passed over.
+// What is kept at the room's start: a packet of this content, in the headers of whose EPs so many bits were repaired.
+// Inside an EP nothing kept means that it is passed over.
 pub enum Kept {
     Empty,
-    Of { content: u8, len: usize },
+    Of {
+        content: u8,
+        repaired: u64,
+        len: usize,
+    },
 }
 
 pub struct Walk {
@@ -34,7 +39,11 @@ pub struct Walk {
 pub enum Gain {
     Nothing,
     Notice(u8),
-    Packet { content: u8, len: usize },
+    Packet {
+        content: u8,
+        repaired: u64,
+        len: usize,
+    },
 }
 
 pub struct Answer {
@@ -114,8 +123,13 @@ fn grown(n: usize, kept: Kept) -> Kept
 {
     match kept {
         Kept::Empty => kept,
-        Kept::Of { content, len } => Kept::Of {
+        Kept::Of {
             content,
+            repaired,
+            len,
+        } => Kept::Of {
+            content,
+            repaired,
             len: len + n,
         },
     }
@@ -165,7 +179,11 @@ fn put(tp: &[u8], at: usize, n: usize, kept: Kept, room: &mut [u8])
 {
     match kept {
         Kept::Empty => {}
-        Kept::Of { content: _, len } => {
+        Kept::Of {
+            content: _,
+            repaired: _,
+            len,
+        } => {
             let end = at + n;
             queue::copy_at(room, len, &tp[at..end]);
         }

@@ -5,7 +5,8 @@ use mathlib.Core.Bool.{true}
 use mathlib.Core.Option.{Option, none, some}
 use lib.Dec.{eqb, leb}
 use borrow.Author.Tests.{eqb-true}
-use Prim.Native.Nat.{ℕ, _+_, _*_, _/_, _%_, _^_}
+use Prim.Native.Nat.{ℕ, _+_, _*_, _/_, _%_, _^_, _≤_}
+use native.Mathlib.Omega.{arith}
 use Rattle.golay.specs.declared.Decoded.{Decoded}
 use Rattle.golay.specs.declared.Decoded.the-variants.{Word, Beyond}
 use Rattle.golay.specs.Golay.{high, syndrome}
@@ -15,26 +16,31 @@ use Rattle.golay.proofs.Theorems.{is-reading}
 use Rattle.wire.specs.declared.Header.{Header}
 use Rattle.wire.specs.declared.Read as R
 use Rattle.wire.specs.declared.TpWord as W
-use Rattle.wire.specs.Reading.{numberOf, headerFrom, headerIn, readOf, tpNumberIn, tpWordOf}
+use Rattle.wire.specs.Reading.{numberOf, fieldsOf, headerFrom, headerIn, readOf, tpNumberIn, tpWordOf}
 
 pub number-is : (w : ℕ) (r : Decoded) → Decodes w r → numberOf (reading w) ≡ numberOf r
 number-is w r d = ap numberOf (sym (is-reading w r d))
 
+-- two words' flips are few
+pub few : (w v a b i j : ℕ) → Decodes w (Word a i) → Decodes v (Word b j) → i + j ≤ 6
+unfolding Decodes
+few w v a b i j d e = omega (arith, d .2, e .2)
+
 module _ (bytes : ℕ) (x : Decoded) (dx : Decodes (bytes / 2 ^ 24 % 2 ^ 24) x) where
   pub first-beyond : x ≡ Beyond → R.the-variants.Beyond ≡ readOf (headerIn bytes)
   unfolding headerIn
-  first-beyond e = rw (number-is (bytes / 2 ^ 24 % 2 ^ 24) x dx, e)
+  first-beyond e = rw (sym (is-reading (bytes / 2 ^ 24 % 2 ^ 24) x dx), e)
 
   module _ (y : Decoded) (dy : Decodes (bytes % 2 ^ 24) y) (a i : ℕ) (ex : x ≡ Word a i) where
-    from-both : headerIn bytes ≡ headerFrom (some a) (numberOf y)
+    from-both : headerIn bytes ≡ headerFrom (Word a i) y
     unfolding headerIn
-    from-both = rw (number-is (bytes / 2 ^ 24 % 2 ^ 24) x dx, number-is (bytes % 2 ^ 24) y dy, ex)
+    from-both = rw (sym (is-reading (bytes / 2 ^ 24 % 2 ^ 24) x dx), sym (is-reading (bytes % 2 ^ 24) y dy), ex)
 
     pub second-beyond : y ≡ Beyond → R.the-variants.Beyond ≡ readOf (headerIn bytes)
     second-beyond e = rw (from-both, e)
 
-    pub both-whole : (b j : ℕ) → y ≡ Word b j → (h : Header) → some h ≡ headerFrom (some a) (some b) → R.the-variants.Whole h ≡ readOf (headerIn bytes)
-    both-whole b j e h f = ap readOf f ∙ sym (ap readOf (rw e at from-both))
+    pub both-whole : (b j : ℕ) → y ≡ Word b j → (h : Header) → h ≡ fieldsOf a b (i + j) → R.the-variants.Whole h ≡ readOf (headerIn bytes)
+    both-whole b j e h f = ap R.the-variants.Whole f ∙ sym (ap readOf (rw e at from-both))
 
 module _ (bytes : ℕ) (x : Decoded) (d : Decodes bytes x) where
   pub word-beyond : x ≡ Beyond → W.the-variants.Beyond ≡ tpWordOf (tpNumberIn bytes)
@@ -47,7 +53,7 @@ module _ (bytes : ℕ) (x : Decoded) (d : Decodes bytes x) where
 
 -- two intact words
 pub both-intact : (bytes : ℕ) (h : Header) → eqb (syndrome (bytes / 2 ^ 24 % 2 ^ 24)) 0 ≡ true → eqb (syndrome (bytes % 2 ^ 24)) 0 ≡ true
-    → some h ≡ headerFrom (some (high (bytes / 2 ^ 24 % 2 ^ 24))) (some (high (bytes % 2 ^ 24))) → R.the-variants.Whole h ≡ readOf (headerIn bytes)
+    → h ≡ fieldsOf (high (bytes / 2 ^ 24 % 2 ^ 24)) (high (bytes % 2 ^ 24)) 0 → R.the-variants.Whole h ≡ readOf (headerIn bytes)
 both-intact bytes h e f is =
     let a = bytes / 2 ^ 24 % 2 ^ 24 in
     let b = bytes % 2 ^ 24 in

@@ -4,20 +4,23 @@ use mathlib.Core.Path.{_≡_, refl, sym, ap, ap₂, _∙_}
 use mathlib.Core.Bool.{Bool, true, false, cond}
 use mathlib.Core.Option.{Option, none, some}
 use mathlib.Core.List.{List, [], _∷_, _++_}
-use Prim.Native.Nat.{ℕ, suc, _+_, _*_, _/_, _%_, _^_, _≤_, _<_}
+use Prim.Native.Nat.{ℕ, zero, suc, _+_, _*_, _/_, _%_, _^_, _≤_, _<_}
 use native.Mathlib.Nat.{mod-lt, mod-eq-of-lt}
 use native.Mathlib.Omega.{arith}
-use lib.Dec.{lit<}
+use lib.Dec.{leb, lit<}
 use lib.ListN.{length, length-append}
 use Rattle.digits.specs.Digits.{digits, number}
 use Rattle.digits.proofs.Laws.{length-digits, number-append, number-digits}
 use Rattle.golay.specs.Golay.{codeWord, distance}
-use Rattle.golay.specs.Answers.{reading}
+use borrow.Author.Tests.{leb-true}
+use Rattle.golay.specs.declared.Decoded.{Decoded}
+use Rattle.golay.specs.declared.Decoded.the-variants.{Word, Beyond}
+use Rattle.golay.specs.Answers.{count, reading, readingBelow}
 use Rattle.golay.proofs.Words.{parity-lt}
 use Rattle.golay.proofs.Theorems.{reading-near}
 use Rattle.wire.specs.declared.Header.{Header}
 use Rattle.wire.specs.Wire.{word, firstNumber, header, ep, streamByte, offsetNumber, tpHeader}
-use Rattle.wire.specs.Reading.{numberOf, headerFrom, headerIn, tpNumberIn, streamOf, versionOf}
+use Rattle.wire.specs.Reading.{numberOf, fieldsOf, headerFrom, headerIn, tpNumberIn, streamOf, versionOf}
 
 -- ---- lengths
 
@@ -53,32 +56,55 @@ module _ (w n : ℕ) (small : n < 4096) (near : distance w (codeWord n) ≤ 3) w
   pub number-back : numberOf (reading w) ≡ some n
   number-back = ap numberOf (reading-near w n small near)
 
+-- no count is more than that of a word beyond repair
+count-most : (k w : ℕ) → count (readingBelow k w) ≤ 4
+unfolding readingBelow
+count-most zero w = omega arith
+count-most (suc k) w = by (leb (distance w (codeWord k)) 3) refl (count-most k w)
+  where
+    by : (t : Bool) → leb (distance w (codeWord k)) 3 ≡ t → count (readingBelow k w) ≤ 4 → count (cond t (Word k (distance w (codeWord k))) (readingBelow k w)) ≤ 4
+    by true e rest = omega (arith, leb-true (distance w (codeWord k)) 3 e)
+    by false e rest = rest
+
+flips-most : (x y : Decoded) (h : Header) → count x ≤ 4 → count y ≤ 4 → headerFrom x y ≡ some h → h .flips ≤ 8
+flips-most (Word a i) (Word b j) h p q e = let z : i + j ≡ h .flips = cc in omega arith
+flips-most (Word a i) Beyond h p q e = let z : _≡_ {A = ℕ} 0 1 = cc in absurd (omega arith)
+flips-most Beyond y h p q e = let z : _≡_ {A = ℕ} 0 1 = cc in absurd (omega arith)
+
+pub few-flips : (w : ℕ) (h : Header) → headerIn w ≡ some h → h .flips ≤ 8
+unfolding headerIn reading
+few-flips w h e = flips-most (reading (w / 2 ^ 24 % 2 ^ 24)) (reading (w % 2 ^ 24)) h (count-most 4096 (w / 2 ^ 24 % 2 ^ 24)) (count-most 4096 (w % 2 ^ 24)) e
+
 -- ---- an EP header read back
 
 pub first-lt : (c f n : ℕ) → firstNumber c f n < 4096
 unfolding firstNumber
 first-lt c f n = omega arith
 
+-- how many bits of six bytes, as a number, differ from the header that was sent
+abbrev pub headerFlips : ℕ → ℕ → ℕ → ℕ → ℕ
+headerFlips c f n w = distance (w / 2 ^ 24 % 2 ^ 24) (codeWord (firstNumber c f n)) + distance (w % 2 ^ 24) (codeWord (n % 4096))
+
 module _ (c f n : ℕ) (known : c < 16) (flag : f < 4) (short : n < 65536) where
-  fields : headerFrom (some (firstNumber c f n)) (some (n % 4096)) ≡ some (record { content = c; fragment = f; size = n })
+  fields : (k : ℕ) → fieldsOf (firstNumber c f n) (n % 4096) k ≡ record { content = c; fragment = f; size = n; flips = k }
   unfolding firstNumber
-  fields =
+  fields k =
       let content : (c % 16 * 64 + f % 4 * 16 + n / 4096 % 16) / 64 % 16 ≡ c = omega arith in
       let fragment : (c % 16 * 64 + f % 4 * 16 + n / 4096 % 16) / 16 % 4 ≡ f = omega arith in
       let size : (c % 16 * 64 + f % 4 * 16 + n / 4096 % 16) % 16 * 4096 + n % 4096 ≡ n = omega arith in
       rw (content, fragment, size)
 
-  -- an encoded header, with at most three flips in each word, is read as what was encoded
+  -- an encoded header, with at most three flips in each word, is read as what was encoded, with so many flips
   pub header-back : (w : ℕ) → distance (w / 2 ^ 24 % 2 ^ 24) (codeWord (firstNumber c f n)) ≤ 3 → distance (w % 2 ^ 24) (codeWord (n % 4096)) ≤ 3
-      → headerIn w ≡ some (record { content = c; fragment = f; size = n })
+      → headerIn w ≡ some (record { content = c; fragment = f; size = n; flips = headerFlips c f n w })
   unfolding headerIn
   header-back w first second =
-      ap₂ headerFrom (number-back (w / 2 ^ 24 % 2 ^ 24) (firstNumber c f n) (first-lt c f n) first) (number-back (w % 2 ^ 24) (n % 4096) (mod-lt n (lit< tt)) second)
-      ∙ fields
+      ap₂ headerFrom (reading-near (w / 2 ^ 24 % 2 ^ 24) (firstNumber c f n) (first-lt c f n) first) (reading-near (w % 2 ^ 24) (n % 4096) (mod-lt n (lit< tt)) second)
+      ∙ ap some (fields (headerFlips c f n w))
 
 -- bits 11 and 10 of word 0 are sent zero, and ignored: two numbers that differ only there are read alike
-pub top-ignored : (a b d : ℕ) → headerFrom (some (d * 1024 + a % 1024)) (some b) ≡ headerFrom (some (a % 1024)) (some b)
-top-ignored a b d =
+pub top-ignored : (a b d k : ℕ) → fieldsOf (d * 1024 + a % 1024) b k ≡ fieldsOf (a % 1024) b k
+top-ignored a b d k =
     let content : (d * 1024 + a % 1024) / 64 % 16 ≡ a % 1024 / 64 % 16 = omega arith in
     let fragment : (d * 1024 + a % 1024) / 16 % 4 ≡ a % 1024 / 16 % 4 = omega arith in
     let upper : (d * 1024 + a % 1024) % 16 ≡ a % 1024 % 16 = omega arith in

@@ -21,14 +21,18 @@ numberOf (Word n c) = some n
 numberOf Beyond = none
 
 -- content in bits 9 to 6 of word 0, fragment in 5 to 4, length bits 15 to 12 in 3 to 0 and 11 to 0 in word 1
-abbrev pub headerFrom : Option ℕ → Option ℕ → Option Header
-headerFrom (some a) (some b) = some (record { content = a / 64 % 16; fragment = a / 16 % 4; size = a % 16 * 4096 + b })
-headerFrom (some a) none = none
-headerFrom none b = none
+abbrev pub fieldsOf : ℕ → ℕ → ℕ → Header
+fieldsOf a b flips = record { content = a / 64 % 16; fragment = a / 16 % 4; size = a % 16 * 4096 + b; flips = flips }
+
+-- a header is whole if both its words are; it carries "the total repaired" in them
+abbrev pub headerFrom : Decoded → Decoded → Option Header
+headerFrom (Word a i) (Word b j) = some (fieldsOf a b (i + j))
+headerFrom (Word a i) Beyond = none
+headerFrom Beyond w = none
 
 -- six bytes as a number, and the header that they hold; none if one of its words is beyond repair
 unfoldable pub headerIn : ℕ → Option Header
-headerIn w = headerFrom (numberOf (reading (w / 2 ^ 24 % 2 ^ 24))) (numberOf (reading (w % 2 ^ 24)))
+headerIn w = headerFrom (reading (w / 2 ^ 24 % 2 ^ 24)) (reading (w % 2 ^ 24))
 
 unfoldable pub headerOf : List ℕ → Option Header
 headerOf bytes = headerIn (number 0 bytes)

@@ -1,14 +1,16 @@
 // EP header and TP header: numbers to bytes, and back from any maker's bytes.
 ghost use mathlib.Core.Path.{_≡_};
-ghost use mathlib.Core.Option.{some};
+ghost use Prim.Native.Nat.{_+_, _≤_};
 ghost use Rattle.wire.specs.Wire.{word, header, offsetNumber, tpHeader};
-ghost use Rattle.wire.specs.Reading.{headerFrom, headerIn, readOf, tpNumberIn, tpWordOf, sortOf};
+ghost use Rattle.wire.specs.Reading.{fieldsOf, headerIn, readOf, tpNumberIn, tpWordOf, sortOf};
 use golay::Decoded;
 
+// What a header says, and how many bits were repaired in it.
 pub struct Header {
     pub content: u8,
     pub fragment: u8,
     pub size: usize,
+    pub flips: u8,
 }
 
 // Six bytes read as an EP header.
@@ -65,13 +67,14 @@ pub fn tp_header_of(stream: u8, low: bool, offset: u16) -> [u8; 4]
     [stream % 16 * 16, w[0], w[1], w[2]]
 }
 
-fn header_from(a: u16, b: u16) -> Header
-    ensures { λ r. ⌜ some r ≡ headerFrom (some a) (some b) ⌝ }
+fn header_from(a: u16, b: u16, flips: u8) -> Header
+    ensures { λ r. ⌜ r ≡ fieldsOf a b flips ⌝ }
 {
     Header {
         content: (a / 64 % 16) as u8,
         fragment: (a / 16 % 4) as u8,
         size: (a % 16) as usize * 4096 + b as usize,
+        flips,
     }
 }
 
@@ -80,19 +83,19 @@ fn decoded(bytes: u64) -> Read
 {
     let Decoded::Word {
         number: a,
-        flips: _,
+        flips: i,
     } = golay::decode((bytes / 0x100_0000 % 0x100_0000) as u32)
     else {
         return Read::Beyond;
     };
     let Decoded::Word {
         number: b,
-        flips: _,
+        flips: j,
     } = golay::decode((bytes % 0x100_0000) as u32)
     else {
         return Read::Beyond;
     };
-    Read::Whole(header_from(a, b))
+    Read::Whole(header_from(a, b, i + j))
 }
 
 // The EP header that six bytes, as a number, hold. Two intact words leave at once.
@@ -103,7 +106,7 @@ pub fn read_header(bytes: u64) -> Read
     let b = (bytes % 0x100_0000) as u32;
     if golay::is_intact(a) {
         if golay::is_intact(b) {
-            let h = header_from((a / 4096 % 4096) as u16, (b / 4096 % 4096) as u16);
+            let h = header_from((a / 4096 % 4096) as u16, (b / 4096 % 4096) as u16, 0);
             return Read::Whole(h);
         }
     }

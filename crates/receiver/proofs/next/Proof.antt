@@ -7,17 +7,23 @@ use Rattle.receiver.proofs.Answering.{call-gives, call-reads, call-refu
 use Rattle.receiver.proofs.next.Statement.{statement}
 use Rattle.receiver.proofs.next.Tie as tie
 
+step-same-requires : tie.Need-step-same-requires
+step-same-requires c κs = search needs
+
 returns : tie.Need-returns
 returns c =
-    let s = c .before .before .before .before in
+    let s = c .before .before .before .before .before in
     let a = s .args in
-    call-refused (a .r) (a .tp .now) (a .room .now) _ _ (c .if1 .taken) (refused-gives (a .r) (a .tp .now) (a .room .now) (s .pre))
+    rw (c .step-same .ensures) (call-refused (a .r) (a .tp .now) (a .room .now) _ _ (c .before .if1 .taken) (refused-gives (a .r) (a .tp .now) (a .room .now) (s .pre)))
+
+step-same-requires-2 : tie.Need-step-same-requires-2
+step-same-requires-2 c κs = search needs
 
 returns-2 : tie.Need-returns-2
 returns-2 c =
-    let s = c .before .before .before .before .before .before in
+    let s = c .before .before .before .before .before .before .before in
     let a = s .args in
-    call-six (a .r) (a .tp .now) (a .room .now) _ _ (c .before .before .if1 .left) (c .if2 .taken) (same-gives (a .r) (a .tp .now) (a .room .now) 6 (s .pre))
+    rw (c .step-same2 .ensures) (call-six (a .r) (a .tp .now) (a .room .now) _ _ (c .before .before .before .if1 .left) (c .before .if2 .taken) (same-gives (a .r) (a .tp .now) (a .room .now) 6 (s .pre)))
 
 take-up-requires : tie.Need-take-up-requires
 take-up-requires c κs = search needs
@@ -63,7 +69,9 @@ pub next-spec : {M : Type 1} → statement M
 next-spec =
     tie.close
     (tie.spec
+    step-same-requires
     returns
+    step-same-requires-2
     returns-2
     take-up-requires
     enum-known-step

@@ -1,6 +1,9 @@
 -- `wire::decoded` meets its contract: a header is whole if both its words are.
 -- Assumes nothing.
-use Rattle.wire.proofs.Answers.{first-beyond, second-beyond, both-whole}
+use mathlib.Core.Path.{subst}
+use native.Mathlib.Omega.{arith}
+use Rattle.golay.specs.Answers.{Decodes}
+use Rattle.wire.proofs.Answers.{first-beyond, second-beyond, both-whole, few}
 use borrow.Author.Needs.{needs}
 use Rattle.wire.proofs.decoded.Statement.{statement}
 use Rattle.wire.proofs.decoded.Tie as tie
@@ -38,6 +41,15 @@ returns-2 c =
     let a = c .before .before .before .before .a .given in
     second-beyond (c .before .before .before .before .before .before .before .args .bytes) (x .result) (x .ensures) (c .before .before .decode2 .result) (c .before .before .decode2 .ensures) (a .0 .0) (a .0 .1 .0) (a .1) (c .enum-told2 .given .1)
 
+add-header-from : tie.Need-add-header-from
+add-header-from c =
+    let x = c .before .before .before .before .before .before .before .decode in
+    let y = c .before .before .before .decode2 in
+    let a = c .before .before .before .before .before .a .given in
+    let b = c .before .b .given in
+    let m = few _ _ (a .0 .0) (b .0 .0) (a .0 .1 .0) (b .0 .1 .0) (subst (Decodes _) (a .1) (x .ensures)) (subst (Decodes _) (b .1) (y .ensures)) in
+    omega arith
+
 header-from-requires : tie.Need-header-from-requires
 header-from-requires c κs = search needs
 
@@ -63,5 +75,6 @@ decoded-spec =
     enum-known-b
     enum-told-2
     returns-2
+    add-header-from
     header-from-requires
     returns-3)

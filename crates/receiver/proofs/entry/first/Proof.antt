@@ -12,6 +12,9 @@ read-top-requires c κs = search needs
 enum-told : tie.Need-enum-told
 enum-told c = search needs
 
+step-same-requires : tie.Need-step-same-requires
+step-same-requires c κs = search needs
+
 enum-known-number : tie.Need-enum-known-number
 enum-known-number c = search needs
 
@@ -22,7 +25,7 @@ enum-known-low : tie.Need-enum-known-low
 enum-known-low c = search needs
 
 returns : tie.Need-returns
-returns c = let s = c .before .before .before .before in top-begins (s .args .r) (s .args .tp .now) _ (sym (c .before .before .read-top .ensures) ∙ c .enum-told .given .1) (s .pre .0) (s .pre .1)
+returns c = let s = c .before .before .before .before .before in rw (c .step-same .ensures) (top-begins (s .args .r) (s .args .tp .now) _ (sym (c .before .before .before .read-top .ensures) ∙ c .before .enum-told .given .1) (s .pre .0) (s .pre .1))
 
 returns-2 : tie.Need-returns-2
 returns-2 c = let s = c .before .before .before .before .before .before in rw (c .drop-all .ensures) (top-begins (s .args .r) (s .args .tp .now) _ (sym (c .before .before .before .before .read-top .ensures) ∙ c .before .before .number .given .1) (s .pre .0) (s .pre .1))
@@ -36,6 +39,7 @@ first-spec =
     (tie.spec
     read-top-requires
     enum-told
+    step-same-requires
     enum-known-number
     drop-all-requires
     enum-known-low

@@ -5,6 +5,9 @@ use borrow.Author.Needs.{needs}
 use Rattle.receiver.proofs.judge.admit.Statement.{statement}
 use Rattle.receiver.proofs.judge.admit.Tie as tie
 
+cast-flips : tie.Need-cast-flips
+cast-flips c = search needs
+
 kind-of-requires : tie.Need-kind-of-requires
 kind-of-requires c κs = search needs
 
@@ -66,6 +69,7 @@ pub admit-spec : {M : Type 1} → statement M
 admit-spec =
     tie.close
     (tie.spec
+    cast-flips
     kind-of-requires
     enum-told
     more-requires

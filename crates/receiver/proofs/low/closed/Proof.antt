@@ -19,7 +19,7 @@ returns : tie.Need-returns
 returns c =
     let s = c .before .before in
     let a = s .args in
-    closed-out (a .tp .now) (a .at) (a .header) (s .pre) (c .if1 .taken)
+    closed-out (a .tp .now) (a .at) (a .header) (s .pre .0) (c .if1 .taken)
 
 -- src/low.rt:55:16
 add-last : tie.Need-add-last
@@ -30,19 +30,22 @@ add-last-2 : tie.Need-add-last-2
 add-last-2 c = search needs
 
 -- src/low.rt:56:10
-shared-slice-read-ends : tie.Need-shared-slice-read-ends
-shared-slice-read-ends c = search needs
+shared-slice-read-b : tie.Need-shared-slice-read-b
+shared-slice-read-b c = search needs
 
 -- src/low.rt:56:5
+counted-requires : tie.Need-counted-requires
+counted-requires c κs = search needs
+
 ends-requires : tie.Need-ends-requires
 ends-requires c κs = search needs
 
 -- src/low.rt:47:1
 returns-2 : tie.Need-returns-2
 returns-2 c =
-    let s = c .before .before .before .before in
+    let s = c .before .before .before .before .before in
     let a = s .args in
-    c .ends .ensures ∙ closed-in (a .tp .now) (a .at) (a .header) (s .pre) (c .before .before .if1 .left)
+    rw (c .ends .ensures, c .before .counted .ensures) (closed-in (a .tp .now) (a .at) (a .header) (s .pre .0) (c .before .before .before .if1 .left))
 
 pub closed-spec : {M : Type 1} → statement M
 closed-spec =
@@ -53,6 +56,7 @@ closed-spec =
     returns
     add-last
     add-last-2
-    shared-slice-read-ends
+    shared-slice-read-b
+    counted-requires
     ends-requires
     returns-2)

@@ -1,8 +1,9 @@
 -- `receiver::low::item` meets its contract: the four ways for an LLEP to be broken, in order.
 -- Assumes nothing.
 use mathlib.Core.Path.{sym, _∙_}
+use native.Mathlib.Omega.{arith}
 use borrow.Author.Needs.{needs}
-use Rattle.receiver.proofs.Walking.{item-beyond, item-short, item-whole}
+use Rattle.receiver.proofs.Walking.{item-beyond, item-short, item-whole, read-few}
 use Rattle.receiver.proofs.low.item.Statement.{statement}
 use Rattle.receiver.proofs.low.item.Tie as tie
 
@@ -27,7 +28,10 @@ enum-known-h : tie.Need-enum-known-h
 enum-known-h c = search needs
 
 closed-requires : tie.Need-closed-requires
-closed-requires c κs = search needs
+closed-requires c κs =
+    let b = c .before .before .before .before .before .if1 .left in
+    let e = sym (c .before .before .before .read-header .ensures) ∙ c .before .h .given .1 in
+    (omega arith, read-few (c .before .before .before .before .six .result) _ e)
 
 returns-2 : tie.Need-returns-2
 returns-2 c =

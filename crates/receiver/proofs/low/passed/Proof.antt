@@ -24,6 +24,9 @@ gone-requires c κs = search needs
 enum-known-find : tie.Need-enum-known-find
 enum-known-find c = search needs
 
+repaired-requires : tie.Need-repaired-requires
+repaired-requires c κs = search needs
+
 give-requires : tie.Need-give-requires
 give-requires c κs = search needs
 
@@ -31,7 +34,7 @@ returns : tie.Need-returns
 returns c = let a = c .before .before .before .before .args in rw (c .gone .ensures) (passed-by (kindOf (a .header)) (a .header) (a .more) (a .at) _ _ (c .before .before .before .told .ensures) (c .before .enum-told .given .1))
 
 returns-2 : tie.Need-returns-2
-returns-2 c = let a = c .before .before .before .before .before .args in rw (c .give .ensures) (passed-by (kindOf (a .header)) (a .header) (a .more) (a .at) _ _ (c .before .before .before .before .told .ensures) (c .before .before .find .given .1))
+returns-2 c = let a = c .before .before .before .before .before .before .args in rw (c .give .ensures, c .before .repaired .ensures) (passed-by (kindOf (a .header)) (a .header) (a .more) (a .at) _ _ (c .before .before .before .before .before .told .ensures) (c .before .before .before .find .given .1))
 
 pub passed-spec : {M : Type 1} → statement M
 passed-spec =
@@ -43,6 +46,7 @@ passed-spec =
     enum-told
     gone-requires
     enum-known-find
+    repaired-requires
     give-requires
     returns
     returns-2)

@@ -16,6 +16,9 @@ low-stage-requires c κs = search needs
 told-requires : tie.Need-told-requires
 told-requires c κs = search needs
 
+repaired-requires : tie.Need-repaired-requires
+repaired-requires c κs = search needs
+
 piece-of-requires : tie.Need-piece-of-requires
 piece-of-requires c κs = search needs
 
@@ -23,7 +26,7 @@ went-requires : tie.Need-went-requires
 went-requires c κs = search needs
 
 returns : tie.Need-returns
-returns c = rw (c .went .ensures, c .before .piece-of .ensures, c .before .before .told .ensures, c .before .before .before .low-stage .ensures)
+returns c = rw (c .went .ensures, c .before .piece-of .ensures, c .before .before .repaired .ensures, c .before .before .before .told .ensures, c .before .before .before .before .low-stage .ensures)
 
 pub behind-spec : {M : Type 1} → statement M
 behind-spec =
@@ -33,6 +36,7 @@ behind-spec =
     add-end-2
     low-stage-requires
     told-requires
+    repaired-requires
     piece-of-requires
     went-requires
     returns)

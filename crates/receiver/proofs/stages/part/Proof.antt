@@ -32,8 +32,8 @@ enum-known-find c = search needs
 low-stage-requires : tie.Need-low-stage-requires
 low-stage-requires c κs = search needs
 
-step-to-requires : tie.Need-step-to-requires
-step-to-requires c κs = search needs
+step-with-requires : tie.Need-step-with-requires
+step-with-requires c κs = search needs
 
 returns : tie.Need-returns
 returns c =
@@ -57,7 +57,7 @@ returns-3 c =
     let a = s .args in
     let l = s .pre .1 in
     let e = sym (c .before .before .before .before .before .low-walk .ensures) ∙ c .before .before .before .find .given .1 in
-    rw (c .step-to .ensures, c .before .low-stage .ensures) (part-gives (a .r) (a .low) (a .offset) (a .at) (a .tp .now) l _ _ _ (s .pre .0) e)
+    rw (c .step-with .ensures, c .before .low-stage .ensures) (part-gives (a .r) (a .low) (a .offset) (a .at) (a .tp .now) l _ _ _ _ (s .pre .0) e)
 
 pub part-spec : {M : Type 1} → statement M
 part-spec =
@@ -70,7 +70,7 @@ part-spec =
     due-requires
     enum-known-find
     low-stage-requires
-    step-to-requires
+    step-with-requires
     returns
     returns-2
     returns-3)

@@ -25,8 +25,8 @@ enum-known-gain-2 : tie.Need-enum-known-gain-2
 enum-known-gain-2 c = search needs
 
 -- src/stages.rt:60:13
-step-to-requires-3 : tie.Need-step-to-requires-3
-step-to-requires-3 c κs = search needs
+step-with-requires : tie.Need-step-with-requires
+step-with-requires c κs = search needs
 
 -- src/stages.rt:47:1
 returns : tie.Need-returns
@@ -38,7 +38,7 @@ returns-2 c = simp (c .before .before .gain .given .1, c .step-to2 .ensures)
 
 -- src/stages.rt:47:1
 returns-3 : tie.Need-returns-3
-returns-3 c = simp (c .before .before .gain2 .given .1, c .step-to3 .ensures)
+returns-3 c = simp (c .before .before .gain2 .given .1, c .step-with .ensures)
 
 pub tell-spec : {M : Type 1} → statement M
 tell-spec =
@@ -49,7 +49,7 @@ tell-spec =
     enum-known-gain
     step-to-requires-2
     enum-known-gain-2
-    step-to-requires-3
+    step-with-requires
     returns
     returns-2
     returns-3)

@@ -12,14 +12,14 @@ enum-told c = search needs
 enum-known-kept : tie.Need-enum-known-kept
 enum-known-kept c = search needs
 
-add-t6 : tie.Need-add-t6
-add-t6 c = let g = rw (c .before .kept .given .1) at (c .before .before .before .pre) in omega arith
+add-t7 : tie.Need-add-t7
+add-t7 c = let g = rw (c .before .kept .given .1) at (c .before .before .before .pre) in omega arith
 
 returns : tie.Need-returns
 returns c = search needs
 
 returns-2 : tie.Need-returns-2
-returns-2 c = grown-of (c .before .before .before .args .n) _ _ (c .before .before .before .args .kept) (c .before .kept .given .1)
+returns-2 c = grown-of (c .before .before .before .args .n) _ _ _ (c .before .before .before .args .kept) (c .before .kept .given .1)
 
 pub grown-spec : {M : Type 1} → statement M
-grown-spec = tie.close (tie.spec enum-told enum-known-kept add-t6 returns returns-2)
+grown-spec = tie.close (tie.spec enum-told enum-known-kept add-t7 returns returns-2)
