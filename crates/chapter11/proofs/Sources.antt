@@ -35,9 +35,9 @@ said-is : (sp : List ℕ) (i w : ℕ) (x : Decoded) → w ≡ wordAt sp i → De
 unfolding numberAt
 said-is sp i w x e d = ap saidOf (sym (number-is w x d)) ∙ rw e
 
-pub said-word : (sp : List ℕ) (i w n c : ℕ) (x : Decoded) → w ≡ wordAt sp i → Decodes w x
-    → x ≡ G.Word n c → N.Is n ≡ saidOf (numberAt sp i)
-said-word sp i w n c x e d is = ap (λ (z : Decoded). saidOf (numberOf z)) (sym is) ∙ said-is sp i w x e d
+pub said-word : (sp : List ℕ) (i w n c p : ℕ) (x : Decoded) → w ≡ wordAt sp i → Decodes w x
+    → x ≡ G.Word n c p → N.Is n ≡ saidOf (numberAt sp i)
+said-word sp i w n c p x e d is = ap (λ (z : Decoded). saidOf (numberOf z)) (sym is) ∙ said-is sp i w x e d
 
 pub said-beyond : (sp : List ℕ) (i w : ℕ) (x : Decoded) → w ≡ wordAt sp i → Decodes w x
     → x ≡ G.Beyond → N.Beyond ≡ saidOf (numberAt sp i)

@@ -44,7 +44,11 @@ fn number_at(sp: &[u8], i: usize) -> Number
     ensures { λ r. ⌜ r ≡ saidOf (numberAt (now (sp .entry)) i) ⌝ }
 {
     match golay::decode(digits::from_three(sp[i], sp[i + 1], sp[i + 2])) {
-        Decoded::Word { number, flips: _ } => Number::Is(number),
+        Decoded::Word {
+            number,
+            flips: _,
+            places: _,
+        } => Number::Is(number),
         Decoded::Beyond => Number::Beyond,
     }
 }

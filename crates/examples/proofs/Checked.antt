@@ -20,8 +20,8 @@ use Rattle.examples.specs.Examples.{Hold, done, _and_, examples}
 pub examples-hold : Hold examples
 unfolding Decodes codeWord distance weight chosen onesIn endOf flatten word firstNumber header ep streamByte offsetNumber tpHeader around held longer written wrap off lent later pieces spBytes known wantOrdinary wantLow ordinaryOffered lowOffered headAt sizeIn contentIn lowIn lowAt overwritten next leave part fill lacking stream owedAfter span under offset drawWith drawOf drawBy drew
 examples-hold =
-    let seven : Decodes 0x000007 (Word 0x000 3) = (lit< tt, refl, lit≤ tt) in
-    let eight-d : Decodes 0x7FF38D (Word 0x7FF 3) = (lit< tt, refl, lit≤ tt) in
+    let seven : Decodes 0x000007 (Word 0x000 3 0x000007) = (lit< tt, refl, lit≤ tt, refl) in
+    let eight-d : Decodes 0x7FF38D (Word 0x7FF 3 0x000007) = (lit< tt, refl, lit≤ tt, refl) in
     refl
     and refl
     and refl

@@ -23,37 +23,37 @@ use Rattle.examples.specs.Examples.{sixth, read, intact, listing, sixthL
 
 pub first-word : tpNumberIn 0x809958 ≡ some 0x809
 unfolding tpNumberIn Decodes codeWord distance weight chosen onesIn
-first-word = let d : Decodes 0x809958 (Word 0x809 0) = (lit< tt, refl, lit≤ tt) in number-is 0x809958 (Word 0x809 0) d
+first-word = let d : Decodes 0x809958 (Word 0x809 0 0) = (lit< tt, refl, lit≤ tt, refl) in number-is 0x809958 (Word 0x809 0 0) d
 
 pub second-word : tpNumberIn 0x004A97 ≡ some 0x004
 unfolding tpNumberIn Decodes codeWord distance weight chosen onesIn
-second-word = let d : Decodes 0x004A97 (Word 0x004 0) = (lit< tt, refl, lit≤ tt) in number-is 0x004A97 (Word 0x004 0) d
+second-word = let d : Decodes 0x004A97 (Word 0x004 0 0) = (lit< tt, refl, lit≤ tt, refl) in number-is 0x004A97 (Word 0x004 0 0) d
 
 -- six bytes whose two words are intact
-header-is : (w a b : ℕ) → Decodes (w / 2 ^ 24 % 2 ^ 24) (Word a 0) → Decodes (w % 2 ^ 24) (Word b 0) → headerIn w ≡ some (fieldsOf a b 0)
+header-is : (w a b : ℕ) → Decodes (w / 2 ^ 24 % 2 ^ 24) (Word a 0 0) → Decodes (w % 2 ^ 24) (Word b 0 0) → headerIn w ≡ some (fieldsOf a b 0)
 unfolding headerIn
 header-is w a b d e =
-    sym (ap₂ headerFrom (is-reading (w / 2 ^ 24 % 2 ^ 24) (Word a 0) d) (is-reading (w % 2 ^ 24) (Word b 0) e))
+    sym (ap₂ headerFrom (is-reading (w / 2 ^ 24 % 2 ^ 24) (Word a 0 0) d) (is-reading (w % 2 ^ 24) (Word b 0 0) e))
 
 pub low-header : headerIn 0x040D9900293E ≡ some (record { content = 1; fragment = 0; size = 2; flips = 0 })
 unfolding Decodes codeWord distance weight chosen onesIn
 low-header =
-    let d : Decodes 0x040D99 (Word 0x040 0) = (lit< tt, refl, lit≤ tt) in
-    let e : Decodes 0x00293E (Word 0x002 0) = (lit< tt, refl, lit≤ tt) in
+    let d : Decodes 0x040D99 (Word 0x040 0 0) = (lit< tt, refl, lit≤ tt, refl) in
+    let e : Decodes 0x00293E (Word 0x002 0 0) = (lit< tt, refl, lit≤ tt, refl) in
     header-is 0x040D9900293E 0x040 0x002 d e
 
 pub cut-header : headerIn 0x1007B40018EB ≡ some (record { content = 4; fragment = 0; size = 1; flips = 0 })
 unfolding Decodes codeWord distance weight chosen onesIn
 cut-header =
-    let d : Decodes 0x1007B4 (Word 0x100 0) = (lit< tt, refl, lit≤ tt) in
-    let e : Decodes 0x0018EB (Word 0x001 0) = (lit< tt, refl, lit≤ tt) in
+    let d : Decodes 0x1007B4 (Word 0x100 0 0) = (lit< tt, refl, lit≤ tt, refl) in
+    let e : Decodes 0x0018EB (Word 0x001 0 0) = (lit< tt, refl, lit≤ tt, refl) in
     header-is 0x1007B40018EB 0x100 0x001 d e
 
 pub fill-header : headerIn 0x00000000293E ≡ some (record { content = 0; fragment = 0; size = 2; flips = 0 })
 unfolding Decodes codeWord distance weight chosen onesIn
 fill-header =
-    let d : Decodes 0x000000 (Word 0x000 0) = (lit< tt, refl, lit≤ tt) in
-    let e : Decodes 0x00293E (Word 0x002 0) = (lit< tt, refl, lit≤ tt) in
+    let d : Decodes 0x000000 (Word 0x000 0 0) = (lit< tt, refl, lit≤ tt, refl) in
+    let e : Decodes 0x00293E (Word 0x002 0 0) = (lit< tt, refl, lit≤ tt, refl) in
     header-is 0x00000000293E 0x000 0x002 d e
 
 -- with any room of at least a byte; here of one

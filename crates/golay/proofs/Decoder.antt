@@ -1,18 +1,19 @@
 -- What a word's syndrome, and the table's entry at it, say of the word.
 -- Assumes nothing.
-use mathlib.Core.Path.{_≡_, sym, _∙_}
+use mathlib.Core.Path.{_≡_, refl, sym, ap, _∙_}
 use mathlib.Core.Logic.{⊎-elim}
 use Prim.Native.Nat.{ℕ, suc, _/_, _%_, _^_, _≤_, _<_}
 use native.Mathlib.Nat.{mod-lt, mod-eq-of-lt, lt-of-not-le, le-of-suc-le-suc}
 use native.Mathlib.Omega.{arith}
 use lib.Bits.{bitXor, xor-lt, xor-zero-r}
 use lib.Count.{ones, onesIn}
+use lib.Pow.{pow-pos, mod-mod-pow}
 use lib.Dec.{eqb, lit<, lit≤}
-use Rattle.golay.specs.Golay.{high, low, checks, chosen, codeWord, weight, distance, syndrome}
+use Rattle.golay.specs.Golay.{high, low, checks, chosen, codeWord, weight, distance, placesTo, syndrome}
 use Rattle.golay.specs.Answers.{Corrects, Nearest, Decodes}
 use Rattle.golay.specs.declared.Decoded.the-variants.{Word}
-use Rattle.golay.proofs.Xor.{xor-test, within, chosen-lt, ones-in}
-use Rattle.golay.proofs.Words.{alone, repaired}
+use Rattle.golay.proofs.Xor.{xor-test, within, chosen-lt, ones-all, ones-same, no-ones}
+use Rattle.golay.proofs.Words.{alone, parity-lt, repaired}
 
 -- a code word within four flips is a nearest one
 pub nearest : (w n c : ℕ) → n < 4096 → distance w (codeWord n) ≡ c → c ≤ 4 → Nearest w c
@@ -51,27 +52,46 @@ module _ (w x : ℕ) (c : Corrects (syndrome w) x) where
       (λ p. let e = p .1 .0 in nearest w (bitXor (high w) (high e)) 4 (flip-lt w e) (repaired w e (sym (p .1 .2)) ∙ p .1 .3) (lit≤ tt))
       c
 
+-- ---- where the flips are
+
+-- the places of the flips from the code word of n
+module _ (w n : ℕ) where
+  word-lt : codeWord n < 2 ^ 24
+  unfolding codeWord
+  word-lt = let high-lt : n % 4096 < 4096 = mod-lt n (lit< tt) in omega (arith, parity-lt n)
+
+  places-lt : placesTo w n < 2 ^ 24
+  places-lt = xor-lt 24 (w % 2 ^ 24) (codeWord n) (mod-lt w (pow-pos 24)) word-lt
+
+  -- as many as the distance
+  pub as-many : onesIn 24 (placesTo w n) ≡ distance w (codeWord n)
+  unfolding distance weight
+  as-many = ones-same 24 (w % 2 ^ 24) w (codeWord n) (codeWord n) (mod-mod-pow w 0 24) refl
+
+  pub counted : (e : ℕ) → e ≡ placesTo w n → ones e ≡ distance w (codeWord n)
+  counted e is = ap ones is ∙ ones-all 24 (placesTo w n) places-lt ∙ as-many
+
+  no-places : distance w (codeWord n) ≡ 0 → placesTo w n ≡ 0
+  no-places none = no-ones 24 (placesTo w n) places-lt (as-many ∙ none)
+
 -- a word of syndrome 0 is a code word
-pub intact : (w : ℕ) → syndrome w ≡ 0 → Decodes w (Word (high w) 0)
+pub intact : (w : ℕ) → syndrome w ≡ 0 → Decodes w (Word (high w) 0 0)
 unfolding Decodes syndrome weight chosen onesIn
-intact w e = (mod-lt (w / 4096) (lit< tt), rw (xor-zero-r (high w)) at (repaired w 0 e), lit≤ tt)
+intact w e =
+    let none : distance w (codeWord (high w)) ≡ 0 = rw (xor-zero-r (high w)) at (repaired w 0 e) in
+    (mod-lt (w / 4096) (lit< tt), none, lit≤ tt, sym (no-places w (high w) none))
 
 -- a number whose code word lies within three flips is the answer
-pub tried : (w n c : ℕ) → n < 4096 → c ≡ distance w (codeWord n) → c ≤ 3 → Decodes w (Word n c)
+tried : (w n e : ℕ) → n < 4096 → e ≡ placesTo w n → distance w (codeWord n) ≤ 3 → Decodes w (Word n (ones e) e)
 unfolding Decodes
-tried w n c lt e few = (lt, sym e, few)
+tried w n e lt is few = let c = counted w n e is in (lt, sym c, omega arith, is)
 
--- what the entry says to flip, and how many flips that makes
-pub repairs : (w n x c : ℕ) → n ≡ high w → Corrects (syndrome w) x → (x ≡ 0xFFFF → ⊥) → c ≡ distance w (codeWord (bitXor n x))
-    → Decodes w (Word (bitXor n x) c)
-repairs w n x c half entry some count =
+-- what the entry says to flip, and where that makes flips
+pub repairs : (w n x e : ℕ) → n ≡ high w → Corrects (syndrome w) x → (x ≡ 0xFFFF → ⊥) → e ≡ placesTo w (bitXor n x)
+    → Decodes w (Word (bitXor n x) (ones e) e)
+repairs w n x e half entry some is =
     let close : (bitXor n x < 4096) × (distance w (codeWord (bitXor n x)) ≤ 3) = rw half (near w x entry some) in
-    tried w (bitXor n x) c (close .0) count (omega (arith, close .1))
-
--- how the flips are counted
-pub counted : (w n v : ℕ) → v ≡ codeWord n → ones (bitXor w v % 2 ^ 24) ≡ distance w (codeWord n)
-unfolding distance weight
-counted w n v code = rw code (ones-in 24 (bitXor w (codeWord n)))
+    tried w (bitXor n x) e (close .0) is (close .1)
 
 -- a word is intact where both halves say the same number
 pub same-halves : (w c : ℕ) → c ≡ chosen checks (low w) → eqb c (high w) ≡ eqb (syndrome w) 0

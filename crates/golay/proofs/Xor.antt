@@ -159,8 +159,11 @@ unfolding ones onesIn
 ones-all zero n h = rw (lt-one h)
 ones-all (suc k) n h = ones-step n ∙ ap (λ (x : ℕ). n % 2 + x) (ones-all k (n / 2) (shr-lt k 1 (rw add-one h)))
 
-pub ones-in : (k n : ℕ) → ones (n % 2 ^ k) ≡ onesIn k n
-ones-in k n = ones-all k (n % 2 ^ k) (mod-lt n (pow-pos k)) ∙ ones-mod k n
+-- a number of k bits that has no ones is 0
+pub no-ones : (k n : ℕ) → n < 2 ^ k → onesIn k n ≡ 0 → n ≡ 0
+unfolding onesIn
+no-ones zero n h e = lt-one h
+no-ones (suc k) n h e = let rest : n / 2 ≡ 0 = no-ones k (n / 2) (shr-lt k 1 (rw add-one h)) (omega arith) in omega arith
 
 -- two words are no further apart than their distances from a third sum to
 pub ones-near : (k w a b : ℕ) → onesIn k (bitXor a b) ≤ onesIn k (bitXor w a) + onesIn k (bitXor w b)

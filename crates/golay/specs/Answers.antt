@@ -7,7 +7,7 @@ use mathlib.Core.Bool.{cond}
 use Prim.Native.Nat.{ℕ, zero, suc, _-_, _/_, _^_, _≤_, _<_, min}
 use lib.Count.{onesIn}
 use lib.Dec.{leb}
-use Rattle.golay.specs.Golay.{codeWord, weight, distance, syndrome}
+use Rattle.golay.specs.Golay.{codeWord, weight, distance, placesTo, syndrome}
 use Rattle.golay.specs.declared.Decoded.{Decoded}
 use Rattle.golay.specs.declared.Decoded.the-variants.{Word, Beyond}
 use Rattle.golay.specs.declared.End.{End}
@@ -21,20 +21,29 @@ Nearest w c =
 
 -- document 01's count for each answer
 abbrev pub count : Decoded → ℕ
-count (Word n c) = c
+count (Word n c e) = c
 count Beyond = 4
 
--- the number and the count of flipped bits, 0 to 3, of the one code word within three flips;
+-- which of the word's 24 bits were flipped (R-2): bit i for bit i; beyond repair tells none
+abbrev pub places : Decoded → ℕ
+places (Word n c e) = e
+places Beyond = 0
+
+-- the number and the count of flipped bits, 0 to 3, of the one code word within three flips, and which bits they are;
 -- if there is none, beyond repair: the count is then the true distance to the nearest code word
 unfoldable pub Decodes : ℕ → Decoded → Type 0
-Decodes w (Word n c) = (n < 4096) × (distance w (codeWord n) ≡ count (Word n c)) × (count (Word n c) ≤ 3)
+Decodes w (Word n c e) =
+    (n < 4096)
+    × (distance w (codeWord n) ≡ count (Word n c e))
+    × (count (Word n c e) ≤ 3)
+    × (places (Word n c e) ≡ placesTo w n)
 Decodes w Beyond = Nearest w (count Beyond)
 
 -- the same as a function, for the crates above: the number below k whose code word lies within three flips
 unfoldable pub readingBelow : ℕ → ℕ → Decoded
 readingBelow zero w = Beyond
 readingBelow (suc k) w =
-    cond (leb (distance w (codeWord k)) 3) (Word k (distance w (codeWord k))) (readingBelow k w)
+    cond (leb (distance w (codeWord k)) 3) (Word k (distance w (codeWord k)) (placesTo w k)) (readingBelow k w)
 
 unfoldable pub reading : ℕ → Decoded
 reading w = readingBelow 4096 w

@@ -31,7 +31,11 @@ weight w = onesIn 24 w
 unfoldable pub distance : ℕ → ℕ → ℕ
 distance v w = weight (bitXor v w)
 
--- the same for the 8 bits of two bytes
+-- which of the 24 bits of a word must be flipped to make the code word of n: bit i for bit i
+abbrev pub placesTo : ℕ → ℕ → ℕ
+placesTo w n = bitXor (w % 2 ^ 24) (codeWord n)
+
+-- how many of the 8 bits of two bytes differ
 unfoldable pub byteDistance : ℕ → ℕ → ℕ
 byteDistance a b = onesIn 8 (bitXor a b)
 

@@ -1,7 +1,7 @@
 // The extended Golay code of IRIG 106-23 Chapter 7, Appendix A, and the low-latency end byte.
 ghost use mathlib.Core.Path.{_≡_};
 ghost use lib.Dec.{eqb};
-ghost use Rattle.golay.specs.Golay.{chosen, checks, codeWord, distance, low, syndrome};
+ghost use Rattle.golay.specs.Golay.{chosen, checks, codeWord, low, placesTo, syndrome};
 ghost use Rattle.golay.specs.Answers.{Decodes, endByte, endFlips, endMeant};
 
 mod corrections;
@@ -28,9 +28,10 @@ const CHECKS: [u16; 12] = [
     0xC75,
 ];
 
-// A 24-bit word read: the number of the code word within three flips and how many flips; or beyond repair.
+// A 24-bit word read: the number of the code word within three flips, how many flips, and a one at each flipped bit;
+// or beyond repair.
 pub enum Decoded {
-    Word { number: u16, flips: u8 },
+    Word { number: u16, flips: u8, places: u32 },
     Beyond,
 }
 
@@ -61,11 +62,11 @@ pub fn encode(n: u16) -> u32
     (n % 4096) as u32 * 4096 + parities::summed(&HIGH, &MIDDLE, &LOW, n) as u32
 }
 
-// How many of the 24 low bits of w differ from the code word of n.
-fn flips_to(w: u32, n: u16) -> u32
-    ensures { λ r. ⌜ r ≡ distance w (codeWord n) ⌝ }
+// Which of the 24 low bits of w differ from the code word of n.
+fn places_to(w: u32, n: u16) -> u32
+    ensures { λ r. ⌜ r ≡ placesTo w n ⌝ }
 {
-    u32::count_ones((w ^ encode(n)) % 0x100_0000)
+    w % 0x100_0000 ^ encode(n)
 }
 
 // The number that the parity half stands for.
@@ -95,17 +96,22 @@ pub fn decode(w: u32) -> Decoded
     let number = ((w >> 12) % 4096) as u16;
     let s = syndrome_of(w);
     if s == 0 {
-        return Decoded::Word { number, flips: 0 };
+        return Decoded::Word {
+            number,
+            flips: 0,
+            places: 0,
+        };
     }
     let flipped = corrections::correction(s);
     if flipped == 0xFFFF {
         return Decoded::Beyond;
     }
     let right = number ^ flipped;
-    let flips = flips_to(w, right);
+    let places = places_to(w, right);
     Decoded::Word {
         number: right,
-        flips: flips as u8,
+        flips: u32::count_ones(places) as u8,
+        places,
     }
 }
 

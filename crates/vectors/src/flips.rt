@@ -30,7 +30,11 @@ fn raised(t: Tally, place: u8, x: u64) -> Tally {
 
 pub fn noted(t: Tally, w: u32) -> Tally {
     match golay::decode(w) {
-        Decoded::Word { number, flips } => raised(t, flips, number as u64 * 8 + flips as u64),
+        Decoded::Word {
+            number,
+            flips,
+            places: _,
+        } => raised(t, flips, number as u64 * 8 + flips as u64),
         Decoded::Beyond => raised(t, 4, 4),
     }
 }

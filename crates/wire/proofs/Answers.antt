@@ -22,34 +22,34 @@ pub number-is : (w : ℕ) (r : Decoded) → Decodes w r → numberOf (reading w)
 number-is w r d = ap numberOf (sym (is-reading w r d))
 
 -- two words' flips are few
-pub few : (w v a b i j : ℕ) → Decodes w (Word a i) → Decodes v (Word b j) → i + j ≤ 6
+pub few : (w v a b i j p q : ℕ) → Decodes w (Word a i p) → Decodes v (Word b j q) → i + j ≤ 6
 unfolding Decodes
-few w v a b i j d e = omega (arith, d .2, e .2)
+few w v a b i j p q d e = omega (arith, d .2, e .2)
 
 module _ (bytes : ℕ) (x : Decoded) (dx : Decodes (bytes / 2 ^ 24 % 2 ^ 24) x) where
   pub first-beyond : x ≡ Beyond → R.the-variants.Beyond ≡ readOf (headerIn bytes)
   unfolding headerIn
   first-beyond e = rw (sym (is-reading (bytes / 2 ^ 24 % 2 ^ 24) x dx), e)
 
-  module _ (y : Decoded) (dy : Decodes (bytes % 2 ^ 24) y) (a i : ℕ) (ex : x ≡ Word a i) where
-    from-both : headerIn bytes ≡ headerFrom (Word a i) y
+  module _ (y : Decoded) (dy : Decodes (bytes % 2 ^ 24) y) (a i p : ℕ) (ex : x ≡ Word a i p) where
+    from-both : headerIn bytes ≡ headerFrom (Word a i p) y
     unfolding headerIn
     from-both = rw (sym (is-reading (bytes / 2 ^ 24 % 2 ^ 24) x dx), sym (is-reading (bytes % 2 ^ 24) y dy), ex)
 
     pub second-beyond : y ≡ Beyond → R.the-variants.Beyond ≡ readOf (headerIn bytes)
     second-beyond e = rw (from-both, e)
 
-    pub both-whole : (b j : ℕ) → y ≡ Word b j → (h : Header) → h ≡ fieldsOf a b (i + j) → R.the-variants.Whole h ≡ readOf (headerIn bytes)
-    both-whole b j e h f = ap R.the-variants.Whole f ∙ sym (ap readOf (rw e at from-both))
+    pub both-whole : (b j q : ℕ) → y ≡ Word b j q → (h : Header) → h ≡ fieldsOf a b (i + j) → R.the-variants.Whole h ≡ readOf (headerIn bytes)
+    both-whole b j q e h f = ap R.the-variants.Whole f ∙ sym (ap readOf (rw e at from-both))
 
 module _ (bytes : ℕ) (x : Decoded) (d : Decodes bytes x) where
   pub word-beyond : x ≡ Beyond → W.the-variants.Beyond ≡ tpWordOf (tpNumberIn bytes)
   unfolding tpNumberIn
   word-beyond e = rw (number-is bytes x d, e)
 
-  pub word-says : (n i : ℕ) → x ≡ Word n i → W.the-variants.Says (leb 2048 n) (n % 2048) ≡ tpWordOf (tpNumberIn bytes)
+  pub word-says : (n i p : ℕ) → x ≡ Word n i p → W.the-variants.Says (leb 2048 n) (n % 2048) ≡ tpWordOf (tpNumberIn bytes)
   unfolding tpNumberIn
-  word-says n i e = rw (number-is bytes x d, e)
+  word-says n i p e = rw (number-is bytes x d, e)
 
 -- two intact words
 pub both-intact : (bytes : ℕ) (h : Header) → eqb (syndrome (bytes / 2 ^ 24 % 2 ^ 24)) 0 ≡ true → eqb (syndrome (bytes % 2 ^ 24)) 0 ≡ true
@@ -57,4 +57,4 @@ pub both-intact : (bytes : ℕ) (h : Header) → eqb (syndrome (bytes / 2 ^ 24 %
 both-intact bytes h e f is =
     let a = bytes / 2 ^ 24 % 2 ^ 24 in
     let b = bytes % 2 ^ 24 in
-    both-whole bytes (Word (high a) 0) (intact a (eqb-true (syndrome a) 0 e)) (Word (high b) 0) (intact b (eqb-true (syndrome b) 0 f)) (high a) 0 refl (high b) 0 refl h is
+    both-whole bytes (Word (high a) 0 0) (intact a (eqb-true (syndrome a) 0 e)) (Word (high b) 0 0) (intact b (eqb-true (syndrome b) 0 f)) (high a) 0 0 refl (high b) 0 0 refl h is

@@ -11,7 +11,7 @@ use lib.Dec.{leb, lit<}
 use lib.ListN.{length, length-append}
 use Rattle.digits.specs.Digits.{digits, number}
 use Rattle.digits.proofs.Laws.{length-digits, number-append, number-digits}
-use Rattle.golay.specs.Golay.{codeWord, distance}
+use Rattle.golay.specs.Golay.{codeWord, distance, placesTo}
 use borrow.Author.Tests.{leb-true}
 use Rattle.golay.specs.declared.Decoded.{Decoded}
 use Rattle.golay.specs.declared.Decoded.the-variants.{Word, Beyond}
@@ -62,13 +62,13 @@ unfolding readingBelow
 count-most zero w = omega arith
 count-most (suc k) w = by (leb (distance w (codeWord k)) 3) refl (count-most k w)
   where
-    by : (t : Bool) → leb (distance w (codeWord k)) 3 ≡ t → count (readingBelow k w) ≤ 4 → count (cond t (Word k (distance w (codeWord k))) (readingBelow k w)) ≤ 4
+    by : (t : Bool) → leb (distance w (codeWord k)) 3 ≡ t → count (readingBelow k w) ≤ 4 → count (cond t (Word k (distance w (codeWord k)) (placesTo w k)) (readingBelow k w)) ≤ 4
     by true e rest = omega (arith, leb-true (distance w (codeWord k)) 3 e)
     by false e rest = rest
 
 flips-most : (x y : Decoded) (h : Header) → count x ≤ 4 → count y ≤ 4 → headerFrom x y ≡ some h → h .flips ≤ 8
-flips-most (Word a i) (Word b j) h p q e = let z : i + j ≡ h .flips = cc in omega arith
-flips-most (Word a i) Beyond h p q e = let z : _≡_ {A = ℕ} 0 1 = cc in absurd (omega arith)
+flips-most (Word a i x) (Word b j y) h p q e = let z : i + j ≡ h .flips = cc in omega arith
+flips-most (Word a i x) Beyond h p q e = let z : _≡_ {A = ℕ} 0 1 = cc in absurd (omega arith)
 flips-most Beyond y h p q e = let z : _≡_ {A = ℕ} 0 1 = cc in absurd (omega arith)
 
 pub few-flips : (w : ℕ) (h : Header) → headerIn w ≡ some h → h .flips ≤ 8

@@ -17,7 +17,7 @@ use Rattle.wire.specs.declared.Sort.the-variants.{Fill, Known, Reserved}
 
 -- the number of a word; none beyond repair
 abbrev pub numberOf : Decoded → Option ℕ
-numberOf (Word n c) = some n
+numberOf (Word n c e) = some n
 numberOf Beyond = none
 
 -- content in bits 9 to 6 of word 0, fragment in 5 to 4, length bits 15 to 12 in 3 to 0 and 11 to 0 in word 1
@@ -26,8 +26,8 @@ fieldsOf a b flips = record { content = a / 64 % 16; fragment = a / 16 % 4; size
 
 -- a header is whole if both its words are; it carries "the total repaired" in them
 abbrev pub headerFrom : Decoded → Decoded → Option Header
-headerFrom (Word a i) (Word b j) = some (fieldsOf a b (i + j))
-headerFrom (Word a i) Beyond = none
+headerFrom (Word a i p) (Word b j q) = some (fieldsOf a b (i + j))
+headerFrom (Word a i p) Beyond = none
 headerFrom Beyond w = none
 
 -- six bytes as a number, and the header that they hold; none if one of its words is beyond repair

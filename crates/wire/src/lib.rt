@@ -84,6 +84,7 @@ fn decoded(bytes: u64) -> Read
     let Decoded::Word {
         number: a,
         flips: i,
+        places: _,
     } = golay::decode((bytes / 0x100_0000 % 0x100_0000) as u32)
     else {
         return Read::Beyond;
@@ -91,6 +92,7 @@ fn decoded(bytes: u64) -> Read
     let Decoded::Word {
         number: b,
         flips: j,
+        places: _,
     } = golay::decode((bytes % 0x100_0000) as u32)
     else {
         return Read::Beyond;
@@ -118,7 +120,11 @@ pub fn read_tp_word(bytes: u32) -> TpWord
     ensures { λ r. ⌜ r ≡ tpWordOf (tpNumberIn bytes) ⌝ }
 {
     match golay::decode(bytes) {
-        Decoded::Word { number, flips: _ } => TpWord::Says {
+        Decoded::Word {
+            number,
+            flips: _,
+            places: _,
+        } => TpWord::Says {
             low: 2048 <= number,
             offset: (number % 2048) as usize,
         },

@@ -1,5 +1,5 @@
-// Digests of what the Golay code answers to words of three bytes. Each sort has a loop of its own, so that a word costs
-// nothing but its answer.
+// Digests of what the Golay code answers to words of three bytes. Encoding, decoding and the end byte have loops of their
+// own, so that a word costs nothing but its answer.
 ghost use Prim.Native.Nat.{_+_, _<_, _≤_};
 ghost use lib.ListN.{length};
 use golay::Decoded;
@@ -18,11 +18,35 @@ fn word_at(words: &[u8], i: usize) -> u32
     digits::from_three(words[i], words[i + 1], words[i + 2])
 }
 
-fn decoded_value(w: u32) -> u32 {
+// What a word is read as: 8 times the number plus the flips, or 4 beyond repair; and where the flips were.
+struct Told {
+    value: u32,
+    places: u32,
+}
+
+fn read(w: u32) -> Told {
     match golay::decode(w) {
-        Decoded::Word { number, flips } => number as u32 * 8 + flips as u32,
-        Decoded::Beyond => 4,
+        Decoded::Word {
+            number,
+            flips,
+            places,
+        } => Told {
+            value: number as u32 * 8 + flips as u32,
+            places,
+        },
+        Decoded::Beyond => Told {
+            value: 4,
+            places: 0,
+        },
     }
+}
+
+fn decoded_value(w: u32, places: bool) -> u32 {
+    let t = read(w);
+    if places {
+        return t.places;
+    }
+    t.value
 }
 
 fn end_value(w: u32) -> u32 {
@@ -53,11 +77,12 @@ pub fn encoded(words: &[u8]) -> u64 {
     digest
 }
 
-pub fn decoded(words: &[u8]) -> u64 {
+// One loop for the values and for the places: the compiler puts the decoder into a loop only if it is called nowhere else.
+pub fn decoded(words: &[u8], places: bool) -> u64 {
     let mut digest: u64 = 0;
     let mut i = 0;
     while 3 <= words.len() - i {
-        digest = mixed(digest, decoded_value(word_at(words, i)));
+        digest = mixed(digest, decoded_value(word_at(words, i), places));
         i += 3;
     }
     digest

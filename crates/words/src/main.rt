@@ -13,7 +13,8 @@ fn print_sort(what: u8) {
         0 => io::write_all(1, b"nothing "),
         1 => io::write_all(1, b"encode "),
         2 => io::write_all(1, b"decode "),
-        _ => io::write_all(1, b"end "),
+        3 => io::write_all(1, b"end "),
+        _ => io::write_all(1, b"places "),
     }
     ;
 }
@@ -22,8 +23,8 @@ fn digest_of(what: u8, words: &[u8]) -> u64 {
     match what {
         0 => answers::themselves(words),
         1 => answers::encoded(words),
-        2 => answers::decoded(words),
-        _ => answers::ended(words),
+        3 => answers::ended(words),
+        _ => answers::decoded(words, what == 4),
     }
 }
 
@@ -48,7 +49,7 @@ fn section(buf: &mut [u8]) -> bool {
         return false;
     }
     let what = head[0];
-    if 3 < what {
+    if 4 < what {
         return false;
     }
     let count = count_of(head[1], head[2]);

@@ -1,5 +1,5 @@
 -- `golay::decode` meets its contract: a word of syndrome 0 is intact; for any other the table's entry at its syndrome says what
--- to flip, and the count is the distance itself. Assumes nothing.
+-- to flip, and the bits that differ from that code word are the flips. Assumes nothing.
 use mathlib.Core.Path.{sym, refl, _∙_}
 use native.Mathlib.Omega.{arith}
 use borrow.Author.Needs.{needs}
@@ -31,13 +31,13 @@ returns-2 c =
     let a = c .before in
     far (a .before .before .before .args .w) (a .correction .result) (entry a) (c .if2 .taken)
 
-flips-to-requires : tie.Need-flips-to-requires
-flips-to-requires c κs = search needs
+places-to-requires : tie.Need-places-to-requires
+places-to-requires c κs = search needs
 
 returns-3 : tie.Need-returns-3
 returns-3 c =
     let a = c .before .before in
-    repairs (a .before .before .before .args .w) _ (a .correction .result) (c .flips-to .result) refl (entry a) (c .before .if2 .left) (c .flips-to .ensures)
+    repairs (a .before .before .before .args .w) _ (a .correction .result) (c .places-to .result) refl (entry a) (c .before .if2 .left) (c .places-to .ensures)
 
 cast-t10 : tie.Need-cast-t10
 unfolding Decodes
@@ -52,6 +52,6 @@ decode-spec =
     returns
     correction-requires
     returns-2
-    flips-to-requires
+    places-to-requires
     cast-t10
     returns-3)

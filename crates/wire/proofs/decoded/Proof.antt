@@ -39,7 +39,7 @@ returns-2 : tie.Need-returns-2
 returns-2 c =
     let x = c .before .before .before .before .before .before .decode in
     let a = c .before .before .before .before .a .given in
-    second-beyond (c .before .before .before .before .before .before .before .args .bytes) (x .result) (x .ensures) (c .before .before .decode2 .result) (c .before .before .decode2 .ensures) (a .0 .0) (a .0 .1 .0) (a .1) (c .enum-told2 .given .1)
+    second-beyond (c .before .before .before .before .before .before .before .args .bytes) (x .result) (x .ensures) (c .before .before .decode2 .result) (c .before .before .decode2 .ensures) (a .0 .0) (a .0 .1 .0) (a .0 .1 .1 .0) (a .1) (c .enum-told2 .given .1)
 
 add-header-from : tie.Need-add-header-from
 add-header-from c =
@@ -47,7 +47,7 @@ add-header-from c =
     let y = c .before .before .before .decode2 in
     let a = c .before .before .before .before .before .a .given in
     let b = c .before .b .given in
-    let m = few _ _ (a .0 .0) (b .0 .0) (a .0 .1 .0) (b .0 .1 .0) (subst (Decodes _) (a .1) (x .ensures)) (subst (Decodes _) (b .1) (y .ensures)) in
+    let m = few _ _ (a .0 .0) (b .0 .0) (a .0 .1 .0) (b .0 .1 .0) (a .0 .1 .1 .0) (b .0 .1 .1 .0) (subst (Decodes _) (a .1) (x .ensures)) (subst (Decodes _) (b .1) (y .ensures)) in
     omega arith
 
 header-from-requires : tie.Need-header-from-requires
@@ -59,7 +59,7 @@ returns-3 c =
     let y = c .before .before .before .before .decode2 in
     let a = c .before .before .before .before .before .before .a .given in
     let b = c .before .before .b .given in
-    both-whole (c .before .before .before .before .before .before .before .before .before .args .bytes) (x .result) (x .ensures) (y .result) (y .ensures) (a .0 .0) (a .0 .1 .0) (a .1) (b .0 .0) (b .0 .1 .0) (b .1) (c .header-from .result) (c .header-from .ensures)
+    both-whole (c .before .before .before .before .before .before .before .before .before .args .bytes) (x .result) (x .ensures) (y .result) (y .ensures) (a .0 .0) (a .0 .1 .0) (a .0 .1 .1 .0) (a .1) (b .0 .0) (b .0 .1 .0) (b .0 .1 .1 .0) (b .1) (c .header-from .result) (c .header-from .ensures)
 
 pub decoded-spec : {M : Type 1} → statement M
 decoded-spec =

@@ -20,7 +20,7 @@ enum-told c = search needs
 returns : tie.Need-returns
 returns c =
     let n = c .before .number .given in
-    word-says (c .before .before .before .before .args .bytes) (c .before .before .before .decode .result) (c .before .before .before .decode .ensures) (n .0 .0) (n .0 .1 .0) (n .1)
+    word-says (c .before .before .before .before .args .bytes) (c .before .before .before .decode .result) (c .before .before .before .decode .ensures) (n .0 .0) (n .0 .1 .0) (n .0 .1 .1 .0) (n .1)
 
 returns-2 : tie.Need-returns-2
 returns-2 c = word-beyond (c .before .before .before .args .bytes) (c .before .before .decode .result) (c .before .before .decode .ensures) (c .enum-told .given .1)

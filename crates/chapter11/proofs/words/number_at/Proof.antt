@@ -35,7 +35,7 @@ enum-told c = search needs
 returns : tie.Need-returns
 returns c =
     let k = c .before .number .given in
-    said-word (c .before .before .before .before .before .before .before .before .before .args .sp .now) (c .before .before .before .before .before .before .before .before .before .args .i) (c .before .before .before .before .from-three .result) (k .0 .0) (k .0 .1 .0) (c .before .before .before .decode .result) (c .before .before .before .before .from-three .ensures) (c .before .before .before .decode .ensures) (k .1)
+    said-word (c .before .before .before .before .before .before .before .before .before .args .sp .now) (c .before .before .before .before .before .before .before .before .before .args .i) (c .before .before .before .before .from-three .result) (k .0 .0) (k .0 .1 .0) (k .0 .1 .1 .0) (c .before .before .before .decode .result) (c .before .before .before .before .from-three .ensures) (c .before .before .before .decode .ensures) (k .1)
 
 returns-2 : tie.Need-returns-2
 returns-2 c = said-beyond (c .before .before .before .before .before .before .before .before .args .sp .now) (c .before .before .before .before .before .before .before .before .args .i) (c .before .before .before .from-three .result) (c .before .before .decode .result) (c .before .before .before .from-three .ensures) (c .before .before .decode .ensures) (c .enum-told .given .1)

@@ -6,10 +6,10 @@ use Rattle.words.proofs.answers.decoded.Statement.{statement}
 use Rattle.words.proofs.answers.decoded.Tie as tie
 
 abbrev Inv-loop : tie.InvT-loop
-Inv-loop words digest₀ i₀ digest i = (digest < 4294967291) × (i ≤ length words)
+Inv-loop words places digest₀ i₀ digest i = (digest < 4294967291) × (i ≤ length words)
 
 abbrev μ-loop : tie.MeasureT-loop
-μ-loop words digest₀ i₀ digest i = length words - i
+μ-loop words places digest₀ i₀ digest i = length words - i
 
 loop-holds : tie.Need-loop-holds Inv-loop μ-loop
 loop-holds c = search needs
