@@ -109,19 +109,42 @@ static c7_find next_line(const call_entry *entry)
     return find;
 }
 
+static c7_find next_and_about_lines(const call_entry *entry)
+{
+    c7_find find = next_line(entry);
+
+    printf("about 0 0 %lu\n", (unsigned long)find.repaired);
+    return find;
+}
+
 static void call_next(const call_entry *entry)
 {
     next_line(entry);
 }
 
-static void call_all(const call_entry *entry)
+static void call_next_about(const call_entry *entry)
+{
+    next_and_about_lines(entry);
+}
+
+static void all_lines(const call_entry *entry, c7_find (*lines)(const call_entry *))
 {
     c7_find find;
 
     do
-        find = next_line(entry);
+        find = lines(entry);
     while (find.sort == C7_FIND_LOW || find.sort == C7_FIND_ORDINARY ||
            (find.sort == C7_FIND_NOTICE && find.number > C7_TP_BEYOND_REPAIR));
+}
+
+static void call_all(const call_entry *entry)
+{
+    all_lines(entry, next_line);
+}
+
+static void call_all_about(const call_entry *entry)
+{
+    all_lines(entry, next_and_about_lines);
 }
 
 static void call_gap(const call_entry *entry)
@@ -183,6 +206,7 @@ int command_calls(void)
     static void (*const calls[])(const call_entry *) = {
         NULL,      call_sender, call_ordinary, call_low,  call_draw,  call_receiver,
         call_next, call_gap,    call_write,    call_hand, call_limit, call_all,
+        call_next_about, call_all_about,
     };
     static call_entry entry;
 

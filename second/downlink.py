@@ -1,6 +1,10 @@
 """What must come out of a receiver under damage within the limits, where transport packets may be missing and
 each place where some are is told as a gap: exactly the packets of which nothing is missing, with the bytes that
 arrived."""
+import collections
+
+
+Found = collections.namedtuple("Found", "tp sort content data repaired")  # the TP, from 0, that handed it out
 
 
 def flip(tps, places, bits):
@@ -14,13 +18,16 @@ def flip_some(rng, tps, places, most=3):
     flip(tps, places, rng.sample(range(8 * len(places)), count))
 
 
+def flip_all(rng, tps, sender):
+    """At most three flips in each Golay word and end byte."""
+    for places in sender.word_places() + [[place] for place in sender.end_places]:
+        flip_some(rng, tps, places)
+
+
 def damaged(rng, sender):
     """The TPs, with at most three flips in each Golay word and end byte, and data at will."""
     tps = [bytearray(one) for one in sender.tps]
-    for places in sender.word_places():
-        flip_some(rng, tps, places)
-    for place in sender.end_places:
-        flip_some(rng, tps, [place])
+    flip_all(rng, tps, sender)
     for one in sender.all_eps:
         for number, byte in one.places[6:]:
             if rng.random() < 0.1:
@@ -52,8 +59,22 @@ def missing(packet, arrived):
     return [number for number in range(packet.begun_in(), packet.ended_in() + 1) if number not in arrived]
 
 
+def flips(sender, tps, places):
+    """Bits of these places that differ from what was sent."""
+    return sum((sender.tps[number][byte] ^ tps[number][byte]).bit_count() for number, byte in places)
+
+
+def checked_places(packet):
+    """The places of the EP headers and, of a low-latency packet, of the end byte behind it."""
+    places = [place for one in packet.eps for place in one.places[:6]]
+    if packet.sort == "low":
+        number, byte = packet.eps[0].places[-1]
+        places.append((number, byte + 1))
+    return places
+
+
 def expected(sender, tps, arrived):
-    """(TP number from 0, sort, content, bytes) of each packet, in the order of reading."""
+    """What comes out of the TPs that arrived, in the order of reading."""
     arrived = set(arrived)
     finds = []
     for order, packet in enumerate(sender.packets):
@@ -61,5 +82,6 @@ def expected(sender, tps, arrived):
             continue
         data = bytes(tps[number][byte] for number, byte in packet.data_places())
         key = (packet.ended_in(), packet.sort == "ordinary", order)
-        finds.append((key, (packet.ended_in(), packet.sort, packet.content, data)))
+        finds.append((key, Found(packet.ended_in(), packet.sort, packet.content, data,
+                                 flips(sender, tps, checked_places(packet)))))
     return [find for _, find in sorted(finds, key=lambda pair: pair[0])]

@@ -78,6 +78,11 @@ static void init_end(void)
     }
 }
 
+unsigned golay_end_flips(uint8_t byte, int end)
+{
+    return ones_in(byte ^ (uint32_t)end, 8);
+}
+
 void golay_init(void)
 {
     static bool built;

@@ -49,6 +49,9 @@ static inline int golay_end(uint8_t byte)
     return golay_end_table[byte];
 }
 
+/* Flipped bits of an end byte that was read as `end`. */
+unsigned golay_end_flips(uint8_t byte, int end);
+
 static inline void golay_put(uint8_t at[GOLAY_BYTES], uint32_t number)
 {
     uint32_t word = golay_encode(number);

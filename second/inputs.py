@@ -1,4 +1,6 @@
 """Inputs from a seed: scripts and recordings for the programs, lists of calls, and sections of words."""
+import itertools
+
 import chapter11
 import downlink
 import packer
@@ -244,6 +246,8 @@ def by_tp(places_list, count):
 def faulty(rng, maker, rate):
     """The maker's TPs under faults, as a list in which None is a gap."""
     tps = [bytearray(tp) for tp in maker.tps]
+    if rng.random() < 0.3:
+        downlink.flip_all(rng, tps, maker)
     words = by_tp(maker.word_places(), len(tps))
     ends = by_tp([[place] for place in maker.end_places], len(tps))
     for number in range(len(tps)):
@@ -321,19 +325,20 @@ def unpack_recording(rng, records):
         sender.draw()
     parts = [records.setup(tp_length, stream, piece)] + [records.record(records.TP, 0, tp) for tp in sender.tps]
     out, refused = b"", []
-    for number, _, content, sp in downlink.expected(sender, sender.tps, range(len(sender.tps))):
-        if content == 3 and isinstance(answers[sp], int):
-            refused.append((len(parts[0]) + number * len(parts[1]), answers[sp]))
-        elif content == 3:
-            out += answers[sp]
+    for found in downlink.expected(sender, sender.tps, range(len(sender.tps))):
+        answer = answers[found.data] if found.content == 3 else b""
+        if isinstance(answer, int):
+            refused.append((len(parts[0]) + found.tp * len(parts[1]), answer))
+        else:
+            out += answer
     return parts, out, refused
 
 
 # ---- lists of calls ----
 
-(SENDER, ORDINARY, LOW, DRAW, RECEIVER, NEXT, GAP, WRITE, HAND, LIMIT, ALL) = range(1, 12)
+(SENDER, ORDINARY, LOW, DRAW, RECEIVER, NEXT, GAP, WRITE, HAND, LIMIT, ALL, NEXT_ABOUT, ALL_ABOUT) = range(1, 14)
 OP_NAMES = ("", "sender", "ordinary", "low", "draw", "receiver", "next", "gap", "write", "hand",
-            "limit", "all")
+            "limit", "all", "next, about", "all, about")
 
 
 def call(op, a=0, b=0, c=0, d=0, e=0, data=b""):
@@ -372,7 +377,7 @@ def sender_calls(rng):
         else:
             yield call(DRAW, off(rng, tp_length), 0, 0, *lent)
             yield call(HAND)
-            yield call(rng.choice((ALL, ALL, NEXT)), off(rng, tp_length), 0, off(rng, room))
+            yield call(rng.choice((ALL, ALL_ABOUT, NEXT_ABOUT)), off(rng, tp_length), 0, off(rng, room))
 
 
 def written_round(buffer, size, place, data):
@@ -480,13 +485,13 @@ def receiver_calls(rng):
         yield call(WRITE, 4, 0, data=tp)
         if rng.random() < odd:
             yield from odd_calls(rng, tp, tp_length, room)
-        yield call(ALL, len(tp), 0, off(rng, room, 0.02))
+        yield call(rng.choice((ALL, ALL_ABOUT)), len(tp), 0, off(rng, room, 0.02))
 
 
 def odd_calls(rng, tp, tp_length, room):
     """Finds of a TP one by one, with other things between them."""
     for _ in range(rng.randrange(1, 5)):
-        yield call(NEXT, off(rng, len(tp)), 0, off(rng, room))
+        yield call(rng.choice((NEXT, NEXT_ABOUT)), off(rng, len(tp)), 0, off(rng, room))
         what = rng.randrange(6)
         if what == 0:
             yield call(GAP)
@@ -555,7 +560,7 @@ def call_list(rng):
 
 # ---- sections of words (words.h) ----
 
-NOTHING, ENCODE, DECODE, END = range(4)
+NOTHING, ENCODE, DECODE, END, PLACES = range(5)
 
 
 def section(what, words):
@@ -572,8 +577,24 @@ def word_sections(rng, count):
     """Any words for each sort, and code words with up to five flips."""
     def coded():
         return int.from_bytes(packer.golay(rng.randrange(4096)), "big")
-    sections = [section(what, [rng.randrange(1 << 24) for _ in range(count)]) for what in range(4)]
-    return sections + [section(DECODE, [flipped_word(rng, coded(), flips) for _ in range(count)]) for flips in range(6)]
+    sections = [section(what, [rng.randrange(1 << 24) for _ in range(count)]) for what in range(5)]
+    return sections + [section(what, [flipped_word(rng, coded(), flips) for _ in range(count)])
+                       for what in (DECODE, PLACES) for flips in range(6)]
+
+
+def all_errors(most):
+    """Each way to flip up to `most` bits of a word, fewest first."""
+    for count in range(most + 1):
+        for bits in itertools.combinations(range(24), count):
+            yield sum(1 << bit for bit in bits)
+
+
+def flipped_sections(numbers):
+    """For each number a section of its code word under all errors of up to four flips."""
+    errors = list(all_errors(4))
+    for number in numbers:
+        word = int.from_bytes(packer.golay(number), "big")
+        yield section(PLACES, [word ^ error for error in errors])
 
 
 # ---- the longest packets (longest.c) ----

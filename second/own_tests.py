@@ -38,13 +38,21 @@ def same(what, got, wanted):
 # ---- document 01's examples ----
 
 def examples_of_words(run):
-    """1 to 3: of a single word the digest is the answer. A decoded word answers 8 times the number plus the count."""
+    """1 to 3: of a single word the digest is the answer. A decoded word answers 8 times the number plus the count.
+    Example 2's words also tell which bits were flipped (R-2)."""
     asked = [(inputs.ENCODE, 0x000, 0x000000), (inputs.ENCODE, 0x001, 0x0018EB), (inputs.ENCODE, 0x7FF, 0x7FF38A),
              (inputs.ENCODE, 0xFFF, 0xFFFFFF), (inputs.DECODE, 0x000007, 0x000 * 8 + 3),
              (inputs.DECODE, 0x00000F, 4), (inputs.DECODE, 0x7FF38D, 0x7FF * 8 + 3), (inputs.END, 0x07, 0x00),
-             (inputs.END, 0x0F, 256), (inputs.END, 0x1F, 0xFF)]
+             (inputs.END, 0x0F, 256), (inputs.END, 0x1F, 0xFF), (inputs.PLACES, 0x000007, 0x000007),
+             (inputs.PLACES, 0x00000F, 0), (inputs.PLACES, 0x7FF38D, 0x000007), (inputs.PLACES, 0xFFFFFF, 0)]
     lines = run("words", b"".join(inputs.section(what, [word]) for what, word, _ in asked)).decode().splitlines()
     same("examples 1 to 3", [int(line.split()[2]) for line in lines], [answer for _, _, answer in asked])
+
+
+def places_told(sections):
+    """Up to three flips are told as they were made, four not at all."""
+    errors = [error if error.bit_count() < 4 else 0 for error in inputs.all_errors(4)]
+    return ("places %d %d\n" % (len(errors), digest(errors)) * len(sections)).encode()
 
 
 def drawn(run, records, lines):
@@ -103,6 +111,34 @@ def examples_of_calls(run):
     low = digest((packer.ep(1, 0, b"d" * 5) + bytes(64))[:64])
     wanted += ["sender 0 0 0", "low 0 0 %d" % low, "low 3 0 %d" % low]
     same("examples 5 and 8", run("calls", b"".join(entries)).decode().splitlines(), wanted)
+
+
+def flipped(encoded, *bits):
+    """Bytes with some bits flipped, counted from the first byte's most significant bit."""
+    number = int.from_bytes(encoded, "big") ^ sum(1 << 8 * len(encoded) - 1 - bit for bit in bits)
+    return number.to_bytes(len(encoded), "big")
+
+
+CARRIED = (  # (EP, its end byte or nothing, what is found with it, and the flips carried)
+    (flipped(packer.ep(1, 0, b"a"), 0, 30, 47), b"\x07", "low 1 1", 6),
+    (flipped(packer.ep(9, 0, b""), 1, 2, 3), b"", "16", 0),
+    (flipped(packer.ep(0, 0, b""), 4, 5, 6), b"", None, 0),
+    (flipped(packer.ep(1, 1, b"x"), 23), b"", None, 0),
+    (flipped(packer.ep(1, 3, b"y"), 0, 1, 2, 24, 25), b"", "ordinary 1 2", 6),
+    (packer.ep(2, 0, b"z"), b"", "ordinary 2 1", 0),
+    (flipped(packer.ep(2, 2, b""), 40), b"", "14", 0),
+    (flipped(packer.ep(2, 0, b"1234567"), 12), b"", "ordinary 2 7", 1))
+
+
+def flips_carried(run):
+    """One TP of 64 bytes; its own header has flips as well, which count for nothing."""
+    payload = b"".join(encoded + end for encoded, end, _, _ in CARRIED)
+    tp = flipped(packer.tp(0, True, 8, payload), 8, 20)
+    entries = [inputs.call(inputs.RECEIVER, 64, 0, 10), inputs.call(inputs.WRITE, 4, 0, data=tp),
+               inputs.call(inputs.ALL_ABOUT, 64, 0, 10)]
+    finds = heard(run("calls", b"".join(entries)).decode())[0]
+    told = [(" ".join(words[:words.index("about")][:3]), int(words[-1])) for _, words in finds]
+    same("flips carried", told, [(find, flips) for _, _, find, flips in CARRIED if find])
 
 
 # ---- Chapter 11 packets, worked out by hand: channel 1, one byte of data, fill of 3, 7 and 4 bytes ----
@@ -173,7 +209,7 @@ def sent(records, sender, piece):
 
 def packet_records(records, packets):
     kinds = {"ordinary": records.ORDINARY, "low": records.LOW}
-    return b"".join(records.record(kinds[sort], content, data) for _, sort, content, data in packets)
+    return b"".join(records.record(kinds[one.sort], one.content, one.data) for one in packets)
 
 
 def read_out(records, sender, piece):
@@ -210,22 +246,24 @@ def listen_calls(sender, tps, starts):
     for start in starts:
         entries.append(inputs.call(inputs.RECEIVER, sender.tp_length, sender.stream, 131072))
         for tp in tps[start:]:
-            entries += [inputs.call(inputs.WRITE, 4, 0, data=tp), inputs.call(inputs.ALL, sender.tp_length, 0, 131072)]
+            entries += [inputs.call(inputs.WRITE, 4, 0, data=tp),
+                        inputs.call(inputs.ALL_ABOUT, sender.tp_length, 0, 131072)]
     return b"".join(entries)
 
 
 def heard(text):
-    """For each opening, the finds of its calls as (TP number, words without the buffers' digests)."""
+    """For each opening, the finds of its calls as (TP number, words of both lines but the buffers' digests)."""
     runs = []
-    for line in text.splitlines():
-        words = line.split()
+    lines = (line.split() for line in text.splitlines())
+    for words in lines:
         if words[0] == "receiver":
             runs.append([])
             number = -1
         elif words[0] == "write":
             number += 1
-        elif words[0] == "next" and words[1] != "none":
-            runs[-1].append((number, words[1:-2]))
+        elif words[0] == "next":
+            about = next(lines)
+            runs[-1] += [(number, words[1:-2] + about)] if words[1] != "none" else []
     return runs
 
 
@@ -240,8 +278,9 @@ def check_finds(what, start, finds, wanted):
 def round_trip_by_calls(run, what, sender, tps, starts):
     runs = heard(run("calls", listen_calls(sender, tps, starts)).decode())
     for start, finds in zip(starts, runs, strict=True):
-        wanted = [(number - start, [sort, str(content), str(len(data)), str(digest(data))])
-                  for number, sort, content, data in expected_from(sender, tps, start)]
+        wanted = [(found.tp - start, [found.sort, str(found.content), str(len(found.data)), str(digest(found.data)),
+                                      "about", "0", "0", str(found.repaired)])
+                  for found in expected_from(sender, tps, start)]
         check_finds(what, start, finds, wanted)
 
 
@@ -269,8 +308,8 @@ def round_trip_by_list(run, records, what, sender, tps, starts):
         words = [content] if sort == "notice" else [sort, content, size]
         by_start[index].append((int(number) - 1 - first[index], words))
     for start, finds in zip(starts, by_start, strict=True):
-        wanted = [(number - start, [sort, str(content), str(len(data))])
-                  for number, sort, content, data in expected_from(sender, tps, start)]
+        wanted = [(found.tp - start, [found.sort, str(found.content), str(len(found.data))])
+                  for found in expected_from(sender, tps, start)]
         check_finds(what, start, finds, wanted)
 
 

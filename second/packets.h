@@ -67,6 +67,7 @@ typedef struct {
     uint8_t content;  /* 0 to 15 */
     uint8_t fragment; /* 0 to 3 */
     uint16_t length;  /* data bytes after the header */
+    uint8_t repaired; /* flips in its two words, as it was received */
 } c7_ep_header;
 
 static inline bool c7_tp_settings_ok(size_t tp_length, unsigned stream)
@@ -89,12 +90,11 @@ static inline void c7_put_ep_header(uint8_t at[C7_EP_HEADER], c7_ep_header heade
 /* The header that two 12-bit numbers stand for, bits 11 and 10 of the first ignored. */
 static inline c7_ep_header c7_ep_header_of(uint32_t word0, uint32_t word1)
 {
-    c7_ep_header header;
-
-    header.content = (uint8_t)(word0 >> 6 & 0xF);
-    header.fragment = (uint8_t)(word0 >> 4 & 0x3);
-    header.length = (uint16_t)((word0 & 0xF) << 12 | (word1 & 0xFFF));
-    return header;
+    return (c7_ep_header){
+        .content = (uint8_t)(word0 >> 6 & 0xF),
+        .fragment = (uint8_t)(word0 >> 4 & 0x3),
+        .length = (uint16_t)((word0 & 0xF) << 12 | (word1 & 0xFFF)),
+    };
 }
 
 /* False if either word is beyond repair. */
@@ -105,6 +105,7 @@ static inline bool c7_get_ep_header(const uint8_t at[C7_EP_HEADER], c7_ep_header
     unsigned flips1 = golay_decode(golay_word(at + GOLAY_BYTES), &word1);
 
     *header = c7_ep_header_of(word0, word1);
+    header->repaired = (uint8_t)(flips0 + flips1);
     return flips0 != GOLAY_BEYOND && flips1 != GOLAY_BEYOND;
 }
 

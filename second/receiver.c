@@ -2,11 +2,11 @@
 
 #include <string.h>
 
-static const c7_find none = {C7_FIND_NONE, 0, 0, 0};
+static const c7_find none = {.sort = C7_FIND_NONE};
 
 static c7_find notice(unsigned number)
 {
-    return (c7_find){C7_FIND_NOTICE, number, 0, 0};
+    return (c7_find){.sort = C7_FIND_NOTICE, .number = number};
 }
 
 static bool is_find(c7_find find)
@@ -39,6 +39,7 @@ static void drop_held(c7_receiver *receiver)
 {
     receiver->held = false;
     receiver->in_room = 0;
+    receiver->repaired = 0;
 }
 
 static void begin_ep(c7_receiver *receiver)
@@ -116,8 +117,13 @@ static c7_find read_low(c7_receiver *receiver, const uint8_t *payload)
         return none;
     if (reserved(header.content) || header.fragment != C7_COMPLETE)
         return notice(C7_NOT_READABLE);
-    return (c7_find){C7_FIND_LOW, header.content, C7_TP_HEADER + at + C7_EP_HEADER,
-                     header.length};
+    return (c7_find){
+        .sort = C7_FIND_LOW,
+        .number = header.content,
+        .start = C7_TP_HEADER + at + C7_EP_HEADER,
+        .length = header.length,
+        .repaired = header.repaired + golay_end_flips(payload[receiver->at - C7_END_BYTE], end),
+    };
 }
 
 /* Where the next EP must begin in this payload; false if its cut header is beyond repair. */
@@ -236,6 +242,11 @@ static c7_find judge_room(c7_receiver *receiver)
         return notice(C7_ROOM_FULL);
     }
     receiver->ep = C7_EP_COPY;
+    /* The total stays at its largest number. */
+    if (receiver->repaired > UINT32_MAX - header.repaired)
+        receiver->repaired = UINT32_MAX;
+    else
+        receiver->repaired += header.repaired;
     return none;
 }
 
@@ -264,7 +275,12 @@ static c7_find read_data(c7_receiver *receiver, const uint8_t *payload, uint8_t 
         return none;
     }
 
-    c7_find packet = {C7_FIND_ORDINARY, header.content, 0, receiver->in_room};
+    c7_find packet = {
+        .sort = C7_FIND_ORDINARY,
+        .number = header.content,
+        .length = receiver->in_room,
+        .repaired = receiver->repaired,
+    };
 
     drop_held(receiver);
     return packet;
@@ -309,7 +325,7 @@ c7_find c7_next(c7_receiver *receiver, const uint8_t *tp, size_t tp_length, uint
     c7_find find;
 
     if (receiver->tp_length == 0 || room_length != receiver->room_length)
-        return (c7_find){C7_FIND_REFUSED, C7_BAD_SETTING, 0, 0};
+        return (c7_find){.sort = C7_FIND_REFUSED, .number = C7_BAD_SETTING};
     if (tp_length != receiver->tp_length)
         return notice(C7_BAD_TP_LENGTH);
 

@@ -17,6 +17,7 @@ typedef struct {
     unsigned number; /* content of a packet, number of a notice or refusal */
     size_t start;    /* of the stretch, 0 without one */
     size_t length;
+    uint32_t repaired; /* of a packet: flips in its EP headers and, if low-latency, its end byte */
 } c7_find;
 
 /* How far the begun TP has been read. */
@@ -49,6 +50,7 @@ typedef struct {
     c7_ep_header header;
     size_t left;    /* data bytes of the EP not yet read */
     size_t in_room; /* bytes of the SP in work or held */
+    uint32_t repaired; /* flips in its EP headers */
     bool held;
     uint8_t held_content;
 

@@ -80,7 +80,7 @@ static void add_ep(c7_queue *queue, uint8_t *buffer, unsigned content, unsigned 
     uint8_t header[C7_EP_HEADER];
 
     c7_put_ep_header(header,
-                     (c7_ep_header){(uint8_t)content, (uint8_t)fragment, (uint16_t)length});
+                     (c7_ep_header){(uint8_t)content, (uint8_t)fragment, (uint16_t)length, 0});
     queue_add(queue, buffer, header, sizeof header);
     queue_add(queue, buffer, data, length);
 }
@@ -216,7 +216,7 @@ static void draw_fill(c7_sender *sender, uint8_t *at, size_t rest)
     if (rest >= C7_EP_HEADER) {
         size_t length = rest - C7_EP_HEADER;
 
-        c7_put_ep_header(at, (c7_ep_header){C7_FILL, C7_COMPLETE, (uint16_t)length});
+        c7_put_ep_header(at, (c7_ep_header){C7_FILL, C7_COMPLETE, (uint16_t)length, 0});
         memset(at + C7_EP_HEADER, C7_FILL_DATA, length);
     } else {
         /* The header of a fill EP without data is six zero bytes. */

@@ -4,6 +4,7 @@ import resource
 import subprocess
 
 import trial
+from lib import chapter11
 
 SETUP = "setup 2051 0 65535\n"
 # the words of a run, and an input from which it would write without end, once its second part is repeated
@@ -15,6 +16,8 @@ STREAMS = {
     "wrap": (["wrap", "--tp", "2051", "--stream", "0"], b"", bytes(2051)),
     "wrap --sync": (["wrap", "--tp", "2051", "--stream", "0", "--sync", "C7"], b"", b"\xc7" + bytes(2051)),
     "wrap --off": (["wrap", "--off"], trial.records(SETUP), trial.records("tp 00*2051\n")),
+    "chapter10": (["chapter10"], b"", chapter11.packet(1, bytes(2000))),
+    "chapter10 -d": (["chapter10", "-d"], trial.records(SETUP), trial.records("ordinary 3 00*2051\n")),
     "pcap": (["pcap"], trial.records(SETUP), trial.records("low 1 00*2051\n")),
 }
 OTHERS = ["cited", "corrections", "icount", "picture", "run", "tests", "wrong"]
