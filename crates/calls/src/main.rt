@@ -9,12 +9,12 @@ mod receiving;
 mod sending;
 mod text;
 
+use queue::least;
 use receiver::Opened;
 use receiver::Receiver;
 use sender::Answer;
 use sender::Sender;
 use text::freed;
-use text::least;
 
 // No list has so many entries: the loop ends for this.
 const LAST: u64 = 0x8000000000000000;

@@ -1,20 +1,11 @@
 // What the lines are made of.
-ghost use Prim.Native.Nat.{_≤_};
 use crate::digest::digest;
+use queue::least;
 use receiver::Find;
 use sender::Refusal;
 
 // The block is written out when so much is held; a line more always has room.
 const FULL: usize = 61440;
-
-pub fn least(a: usize, b: usize) -> usize
-    ensures { λ r. ⌜ (r ≤ a) × (r ≤ b) ⌝ }
-{
-    if a < b {
-        return a;
-    }
-    b
-}
 
 // A space and the digest of a buffer's first bytes.
 pub fn put_digest(out: &mut [u8], at: usize, s: &[u8], most: usize) -> usize {
