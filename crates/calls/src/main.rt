@@ -123,10 +123,10 @@ fn to_receiver(s: State, entry: Entry, received: &[u8], room: &mut [u8], out: &m
             receiving::open(s, entry.a, stream, &room[0..c], out)
         }
         7 => receiving::gap(s, out),
-        11 => receiving::all(s, &received[0..a], &mut room[0..c], out, false),
-        13 => receiving::all(s, &received[0..a], &mut room[0..c], out, true),
+        11 => receiving::all(s, &received[0..a], false, &mut room[0..c], out),
+        13 => receiving::all(s, &received[0..a], true, &mut room[0..c], out),
         _ => {
-            let asked = receiving::next(s, &received[0..a], &mut room[0..c], out, op == 12);
+            let asked = receiving::next(s, &received[0..a], op == 12, &mut room[0..c], out);
             let state = asked.state;
             state
         }

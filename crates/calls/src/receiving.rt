@@ -9,6 +9,7 @@ use receiver::About;
 use receiver::Find;
 use receiver::Opened;
 use receiver::Receiver;
+use receiver::Step;
 
 // No TP gives so much: the loop ends for this.
 const LAST: u64 = 0x8000000000000000;
@@ -75,15 +76,26 @@ fn put_about(out: &mut [u8], at: usize, about: About) -> usize {
     block::put(out, next, b"\n")
 }
 
-fn put_more(out: &mut [u8], at: usize, about: About, more: bool) -> usize {
+// The line of a find, and if more is to be told what it carries.
+fn put_step<'a>(
+    out: &mut [u8],
+    at: usize,
+    step: Step,
+    more: bool,
+    tp: &'a [u8],
+    room: &'a [u8],
+    limit: usize,
+) -> usize {
+    let find = step.find;
+    let about = step.about;
+    let next = put_next(out, at, find, tp, room, limit);
     if more {
-        return put_about(out, at, about);
+        return put_about(out, next, about);
     }
-    at
+    next
 }
 
-// The next find, and if more is to be told what it carries.
-pub fn next(s: State, tp: &[u8], room: &mut [u8], out: &mut [u8], more: bool) -> Asked
+pub fn next(s: State, tp: &[u8], more: bool, room: &mut [u8], out: &mut [u8]) -> Asked
     requires { ⌜ Fine s ⌝ }
     ensures { λ r. ⌜ Fine (r .state) ⌝ }
 {
@@ -91,23 +103,21 @@ pub fn next(s: State, tp: &[u8], room: &mut [u8], out: &mut [u8], more: bool) ->
     let step = receiver::next(before, tp, room);
     let find = step.find;
     let receiver = step.receiver;
-    let about = step.about;
-    let line = put_next(out, s.at, find, tp, room, s.limit);
-    let at = put_more(out, line, about, more);
+    let at = put_step(out, s.at, step, more, tp, room, s.limit);
     Asked {
         state: with_receiver(s, receiver, at),
         goes_on: receiver::lasts(find),
     }
 }
 
-pub fn all(first: State, tp: &[u8], room: &mut [u8], out: &mut [u8], more: bool) -> State
+pub fn all(first: State, tp: &[u8], more: bool, room: &mut [u8], out: &mut [u8]) -> State
     requires { ⌜ Fine first ⌝ }
     ensures { λ r. ⌜ Fine r ⌝ }
 {
     let mut s = first;
     let mut left = LAST;
     while left > 0 {
-        let asked = next(s, tp, room, out, more);
+        let asked = next(s, tp, more, room, out);
         s = asked.state;
         if !asked.goes_on {
             return s;

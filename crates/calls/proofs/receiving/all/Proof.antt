@@ -8,10 +8,10 @@ use Rattle.calls.proofs.receiving.all.Statement.{statement}
 use Rattle.calls.proofs.receiving.all.Tie as tie
 
 abbrev Inv-loop : tie.InvT-loop
-Inv-loop tp room₀ out₀ s₀ left₀ room out s left = Fine s × ((length room ≡ length room₀) × (length out ≡ length out₀))
+Inv-loop tp more room₀ out₀ s₀ left₀ room out s left = Fine s × ((length room ≡ length room₀) × (length out ≡ length out₀))
 
 abbrev μ-loop : tie.MeasureT-loop
-μ-loop tp room₀ out₀ s₀ left₀ room out s left = left
+μ-loop tp more room₀ out₀ s₀ left₀ room out s left = left
 
 loop-holds : tie.Need-loop-holds Inv-loop μ-loop
 loop-holds c = search needs
