@@ -1,6 +1,7 @@
 """The programs under measurement: ours as rt built them, and the second program built for x86-64 with gcc -O3."""
 import os
 import platform
+import re
 import shutil
 import subprocess
 import sys
@@ -14,7 +15,6 @@ BENCH = os.path.join(ROOT, "target", "bench")
 SECOND = os.path.join(BENCH, "c7")
 NATIVE = platform.machine() == "x86_64"
 COMPILER = "gcc" if NATIVE else "x86_64-linux-gnu-gcc"
-SOURCES = ["golay.c", "sender.c", "receiver.c", "house.c", "calls.c", "vectors.c", "longest.c", "main.c"]
 PACKAGES = ["gcc", "libc6-dev", "valgrind"] if NATIVE else ["gcc-x86-64-linux-gnu", "libc6-dev-amd64-cross"]
 
 
@@ -48,9 +48,15 @@ def tell_unbuilt(folder, names):
         print("bench/run: not built yet: %s (rt check %s)" % (", ".join(missing), " ".join(missing)), file=sys.stderr)
 
 
+def sources_of_second():
+    """The files that second/build names."""
+    with open(os.path.join(ROOT, "second", "build"), encoding="utf-8") as file:
+        return re.search(r"^sources='(.*)'$", file.read(), re.MULTILINE)[1].split()
+
+
 def build_second():
     os.makedirs(BENCH, exist_ok=True)
-    words = [COMPILER, "-std=c17", "-O3", "-static"] + SOURCES + ["-o", SECOND]
+    words = [COMPILER, "-std=c17", "-O3", "-static"] + sources_of_second() + ["-o", SECOND]
     if subprocess.run(words, cwd=os.path.join(ROOT, "second")).returncode != 0:
         sys.exit("bench/run: the second program cannot be built")
 
