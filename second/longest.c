@@ -3,19 +3,19 @@
  * Standard input is in parts. A byte 1 and two bytes n: a packet of 131,072 bytes, byte i of which is
  * i modulo 251, is offered n times, and drawn in 65 TPs each time. A byte 2: the rest of the input is
  * TPs, which are read. TP length 2,051, stream 5, F 65,535. Each part prints a line, whose digest takes
- * in every 512th byte of each drawn TP or received packet, after a turn by one bit: cheap beside what
- * made them. */
+ * in every 512th byte, from the fourth on, of each drawn TP or received packet, after a turn by one bit:
+ * cheap beside what made them. A TP's fourth byte is parity, so no Golay word can be left out. */
 #include <stdio.h>
 
 #include "commands.h"
 #include "receiver.h"
 #include "sender.h"
 
-enum { STREAM = 5, PIECE = 65535, DRAWS = 65, SAMPLED = 512, QUEUE = 2 * C7_SP_MAX };
+enum { STREAM = 5, PIECE = 65535, DRAWS = 65, FIRST = 3, SAMPLED = 512, QUEUE = 2 * C7_SP_MAX };
 
 static uint64_t digest_sampled(uint64_t digest, const uint8_t *bytes, size_t length)
 {
-    for (size_t i = 0; i < length; i += SAMPLED)
+    for (size_t i = FIRST; i < length; i += SAMPLED)
         digest = (digest >> 1 | digest << 63) ^ bytes[i];
     return digest;
 }

@@ -1,11 +1,11 @@
 // A digest of some bytes only, so that it costs little beside what made them.
 
-// Every 512th byte of s, from its first on.
+// Every 512th byte of s, from its fourth on: a TP's fourth is parity, so that its Golay word can't be left out.
 pub fn sampled(digest: u64, s: &[u8]) -> u64 {
     let mut d = digest;
     let mut left = s.len();
-    while 0 < left {
-        let i = s.len() - left;
+    while 3 < left {
+        let i = s.len() - left + 3;
         d = mixed(d, s[i]);
         if left < 512 {
             return d;

@@ -17,6 +17,9 @@ loop-holds c = search needs
 sub-i : tie.Need-sub-i Inv-loop μ-loop
 sub-i c = search needs
 
+add-i : tie.Need-add-i Inv-loop μ-loop
+add-i c = search needs
+
 shared-slice-read-mixed : tie.Need-shared-slice-read-mixed Inv-loop μ-loop
 shared-slice-read-mixed c = search needs
 
@@ -43,6 +46,7 @@ sampled-spec =
     μ-loop
     loop-holds
     sub-i
+    add-i
     shared-slice-read-mixed
     mixed-requires
     returns
