@@ -1,17 +1,17 @@
--- A number's parity in three lookups: the rows fall into three groups of four, and what four bits choose of a group stands
--- in a table of sixteen. Assumes nothing.
+-- A number's parity, and the number behind a parity, in three lookups: the rows fall into three groups of four, and what four
+-- bits choose of a group stands in a table of sixteen. Assumes nothing.
 use mathlib.Core.Path.{_≡_, refl, sym, ap, ap₂, _∙_}
-use mathlib.Core.Bool.{Bool}
 use mathlib.Core.List.{List, [], _∷_, _++_}
-use Prim.Native.Nat.{ℕ, _+_, _*_, _/_, _%_, _^_}
+use Prim.Native.Nat.{ℕ, _+_, _*_, _/_, _%_, _^_, _<_}
 use native.Mathlib.Nat.{mod-lt, add-comm}
 use native.Mathlib.Numerals.{one-add}
-use lib.Dec.{T, eqb, eqb→eq, lit<}
+use native.Mathlib.Omega.{arith}
+use lib.Dec.{lit<}
 use lib.Bits.{bitXor}
 use lib.Pow.{shr-shr, field, mod-mod-pow}
-use lib.ListN.{length, length-append, getD, take, drop}
-use Rattle.golay.specs.Golay.{rows, chosen, parity, codeWord, summed}
-use Rattle.golay.proofs.Test.{below, passes}
+use lib.ListN.{length, length-append}
+use Rattle.golay.specs.Golay.{chosen}
+use Rattle.golay.proofs.Test.{NoneBelow, only}
 use Rattle.golay.proofs.Xor.{xor-assoc}
 
 -- rows one after the other are chosen by bits one after the other
@@ -34,31 +34,20 @@ same-bits (r ∷ rs) n m h =
     ap₂ (λ (x y : ℕ). bitXor (x * r) y) (sym (field n 1 k) ∙ ap (λ (x : ℕ). x / 2 ^ k) e ∙ field m 1 k)
     (same-bits rs n m (sym (mod-mod-pow n 1 k) ∙ ap (λ (x : ℕ). x % 2 ^ k) e ∙ mod-mod-pow m 1 k))
 
--- the table has at each number of four bits what they choose of the rows
-abbrev pub holds : List ℕ → List ℕ → Bool
-holds xs rs = below (λ k. eqb (getD xs k 0) (chosen rs k)) 16
+-- a table of sixteen has at the four low bits of n what they choose of four rows: by each entry, and by the last
+pub at : (rs : List ℕ) (n k r : ℕ) → length rs ≡ 4 → n % 16 ≡ k → r ≡ chosen rs k → r ≡ chosen rs n
+at rs n k r four here e =
+    e ∙ ap (chosen rs) (sym here) ∙ same-bits rs (n % 16) n (rw four (mod-mod-pow n 0 4))
 
-at : (xs rs : List ℕ) → length rs ≡ 4 → T (holds xs rs) → (n : ℕ) → getD xs (n % 16) 0 ≡ chosen rs n
-at xs rs four all n =
-    eqb→eq (getD xs (n % 16) 0) (chosen rs (n % 16)) (passes (λ k. eqb (getD xs k 0) (chosen rs k)) 16 all (n % 16) (mod-lt n (lit< tt)))
-    ∙ same-bits rs (n % 16) n (rw four (mod-mod-pow n 0 4))
+pub at-last : (rs : List ℕ) (n r : ℕ) → length rs ≡ 4 → NoneBelow 15 (n % 16) → r ≡ chosen rs 15 → r ≡ chosen rs n
+at-last rs n r four none = at rs n 15 r four (only 15 (n % 16) (let h : n % 16 < 16 = mod-lt n (lit< tt) in omega arith) none)
 
--- the three groups
-abbrev pub group : ℕ → List ℕ
-group i = take 4 (drop i rows)
-
-in-three : (xs ys zs : List ℕ) (n r : ℕ) → r ≡ summed xs ys zs n
-    → T (holds xs (group 0)) → T (holds ys (group 4)) → T (holds zs (group 8)) → r ≡ parity n
-unfolding summed
-in-three xs ys zs n r e h m l =
-    e
-    ∙ ap₂ bitXor (ap₂ bitXor (at xs (group 0) refl h (n / 256)) (at ys (group 4) refl m (n / 16))) (at zs (group 8) refl l n)
-    ∙ xor-assoc (chosen (group 0) (n / 256)) (chosen (group 4) (n / 16)) (chosen (group 8) n)
-    ∙ ap (bitXor (chosen (group 0) (n / 256))) (sym (split (group 4) (group 8) n))
-    ∙ sym (split (group 0) (drop 4 rows) n)
-
--- so the code word is the number and the three entries' sum
-pub coded : (xs ys zs : List ℕ) (n r : ℕ) → r ≡ summed xs ys zs n
-    → T (holds xs (group 0)) → T (holds ys (group 4)) → T (holds zs (group 8)) → n % 4096 * 4096 + r ≡ codeWord n
-unfolding codeWord
-coded xs ys zs n r e h m l = ap (λ (x : ℕ). n % 4096 * 4096 + x) (in-three xs ys zs n r e h m l)
+-- twelve rows fall into three groups of four, chosen by bits 11 to 8, 7 to 4 and 3 to 0
+pub in-three : (xs ys zs : List ℕ) (n a b c : ℕ) → length ys ≡ 4 → length zs ≡ 4
+    → a ≡ chosen xs (n / 256) → b ≡ chosen ys (n / 16) → c ≡ chosen zs n → bitXor (bitXor a b) c ≡ chosen (xs ++ (ys ++ zs)) n
+in-three xs ys zs n a b c four-y four-z d e f =
+    let eight : length (ys ++ zs) ≡ 8 = length-append ys zs ∙ ap₂ _+_ four-y four-z in
+    ap₂ bitXor (ap₂ bitXor d e) f
+    ∙ xor-assoc (chosen xs (n / 256)) (chosen ys (n / 16)) (chosen zs n)
+    ∙ ap (bitXor (chosen xs (n / 256))) (sym (rw four-z at (split ys zs n)))
+    ∙ sym (rw eight at (split xs (ys ++ zs) n))

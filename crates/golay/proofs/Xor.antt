@@ -104,25 +104,6 @@ chosen-lt k n (r ∷ rs) t =
     (by-bit (λ x. x * r < 2 ^ k) (rw zero-mul (pow-pos k)) (rw one-mul here) (n / 2 ^ length rs))
     (chosen-lt k n rs (both-right (ltb r (2 ^ k)) (within k rs) t))
 
--- row i goes by bit k, which has as many bits below it as there are rows after row i
-module _ (rs : List ℕ) (n i k sum : ℕ) (e : k + (i + 1) ≡ length rs) where
-  next : chosen (drop i rs) n ≡ bitXor (n / 2 ^ k % 2 * getD rs i 0) (chosen (drop (i + 1) rs) n)
-  unfolding chosen
-  next =
-      let h : i < length rs = omega arith in
-      let f : k ≡ length (drop (suc i) rs) = rw length-drop (omega arith) in
-      rw (f, add-one, drop-cons rs i 0)
-
-  pub next-one : n / 2 ^ k % 2 ≡ 1 → bitXor (bitXor sum (getD rs i 0)) (chosen (drop (i + 1) rs) n) ≡ bitXor sum (chosen (drop i rs) n)
-  next-one b = xor-assoc sum (getD rs i 0) (chosen (drop (i + 1) rs) n) ∙ sym (ap (bitXor sum) (rw (b, one-mul) at next))
-
-  pub next-zero : (n / 2 ^ k % 2 ≡ 1 → ⊥) → bitXor sum (chosen (drop (i + 1) rs) n) ≡ bitXor sum (chosen (drop i rs) n)
-  next-zero b =
-      ⊎-elim
-      (λ z. let none : n / 2 ^ k % 2 * getD rs i 0 ≡ 0 = rw z (zero-mul (getD rs i 0)) in sym (ap (bitXor sum) (rw none at next)))
-      (λ o. absurd (b o))
-      (bit (n / 2 ^ k))
-
 -- ---- counts
 
 pub ones-xor-le : (k a b : ℕ) → onesIn k (bitXor a b) ≤ onesIn k a + onesIn k b

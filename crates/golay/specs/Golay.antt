@@ -4,7 +4,7 @@ use mathlib.Core.List.{List, [], _∷_}
 use Prim.Native.Nat.{ℕ, _+_, _*_, _/_, _%_, _^_}
 use lib.Bits.{bitXor}
 use lib.Count.{onesIn}
-use lib.ListN.{length, getD}
+use lib.ListN.{length, getD, take, drop}
 
 -- the generator rows (A.2)
 abbrev pub rows : List ℕ
@@ -39,9 +39,9 @@ placesTo w n = bitXor (w % 2 ^ 24) (codeWord n)
 unfoldable pub byteDistance : ℕ → ℕ → ℕ
 byteDistance a b = onesIn 8 (bitXor a b)
 
--- the sum of what three tables of sixteen have at a number's bits 11 to 8, 7 to 4 and 3 to 0
-unfoldable pub summed : List ℕ → List ℕ → List ℕ → ℕ → ℕ
-summed xs ys zs n = bitXor (bitXor (getD xs (n / 256 % 16) 0) (getD ys (n / 16 % 16) 0)) (getD zs (n % 16) 0)
+-- four rows, from row i on: what four bits choose of them stands in a table of sixteen
+abbrev pub four : List ℕ → ℕ → List ℕ
+four rs i = take 4 (drop i rs)
 
 -- ---- the syndrome, by which the table of corrections is indexed (A.3)
 

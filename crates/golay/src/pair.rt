@@ -1,10 +1,7 @@
 // Two numbers encoded at once, as an EP header asks.
 ghost use mathlib.Core.Path.{_≡_};
 ghost use Rattle.golay.specs.Golay.{codeWord};
-use crate::parities;
-use crate::parities::HIGH;
-use crate::parities::LOW;
-use crate::parities::MIDDLE;
+use crate::parities::parity;
 
 // The code words of two numbers.
 pub struct Pair {
@@ -15,11 +12,8 @@ pub struct Pair {
 pub fn encode_pair(a: u16, b: u16) -> Pair
     ensures { λ r. ⌜ r ≡ record { first = codeWord a; second = codeWord b } ⌝ }
 {
-    let high = HIGH;
-    let middle = MIDDLE;
-    let low = LOW;
     Pair {
-        first: (a % 4096) as u32 * 4096 + parities::summed(&high, &middle, &low, a) as u32,
-        second: (b % 4096) as u32 * 4096 + parities::summed(&high, &middle, &low, b) as u32,
+        first: (a % 4096) as u32 * 4096 + parity(a) as u32,
+        second: (b % 4096) as u32 * 4096 + parity(b) as u32,
     }
 }

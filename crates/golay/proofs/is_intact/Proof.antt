@@ -5,14 +5,17 @@ use Rattle.golay.proofs.Decoder.{same-halves}
 use Rattle.golay.proofs.is_intact.Statement.{statement}
 use Rattle.golay.proofs.is_intact.Tie as tie
 
-number-behind-requires : tie.Need-number-behind-requires
-number-behind-requires c κs = search needs
+cast-number : tie.Need-cast-number
+cast-number c = search needs
+
+number-requires : tie.Need-number-requires
+number-requires c κs = search needs
 
 cast-result : tie.Need-cast-result
 cast-result c = search needs
 
 returns : tie.Need-returns
-returns c = same-halves (c .before .args .w) (c .number-behind .result) (c .number-behind .ensures)
+returns c = same-halves (c .before .args .w) (c .number .result) (c .number .ensures)
 
 pub is-intact-spec : {M : Type 1} → statement M
-is-intact-spec = tie.close (tie.spec number-behind-requires cast-result returns)
+is-intact-spec = tie.close (tie.spec cast-number number-requires cast-result returns)

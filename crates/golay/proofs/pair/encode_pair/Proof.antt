@@ -1,61 +1,55 @@
--- `pair::encode_pair` meets its contract: each number's parity is the sum of its three lookups. Assumes nothing.
-use mathlib.Core.Path.{ap₂}
-use Prim.Native.Nat.{ℕ}
-use Rattle.golay.specs.Golay.{chosen}
-use Rattle.golay.proofs.Lookups.{coded}
+-- `pair::encode_pair` meets its contract: each number, then its parity. Assumes nothing.
+use Rattle.golay.specs.Golay.{codeWord}
 use borrow.Author.Needs.{needs}
 use Rattle.golay.proofs.pair.encode_pair.Statement.{statement}
 use Rattle.golay.proofs.pair.encode_pair.Tie as tie
 
-cast-t8 : tie.Need-cast-t8
-cast-t8 c = search needs
+cast-t4 : tie.Need-cast-t4
+cast-t4 c = search needs
 
-mul-t9 : tie.Need-mul-t9
-mul-t9 c = search needs
+mul-t5 : tie.Need-mul-t5
+mul-t5 c = search needs
 
-summed-requires : tie.Need-summed-requires
-summed-requires c κs = search needs
+parity-requires : tie.Need-parity-requires
+parity-requires c κs = search needs
 
-cast-t14 : tie.Need-cast-t14
-cast-t14 c = search needs
+cast-t7 : tie.Need-cast-t7
+cast-t7 c = search needs
 
-add-t15 : tie.Need-add-t15
-add-t15 c = search needs
+add-t8 : tie.Need-add-t8
+add-t8 c = search needs
 
-cast-t17 : tie.Need-cast-t17
-cast-t17 c = search needs
+cast-t10 : tie.Need-cast-t10
+cast-t10 c = search needs
 
-mul-t18 : tie.Need-mul-t18
-mul-t18 c = search needs
+mul-t11 : tie.Need-mul-t11
+mul-t11 c = search needs
 
-summed-requires-2 : tie.Need-summed-requires-2
-summed-requires-2 c κs = search needs
+parity-requires-2 : tie.Need-parity-requires-2
+parity-requires-2 c κs = search needs
 
-cast-t23 : tie.Need-cast-t23
-cast-t23 c = search needs
+cast-t13 : tie.Need-cast-t13
+cast-t13 c = search needs
 
-add-t24 : tie.Need-add-t24
-add-t24 c = search needs
+add-t14 : tie.Need-add-t14
+add-t14 c = search needs
 
 returns : tie.Need-returns
-unfolding chosen
-returns c =
-    ap₂ (λ (x y : ℕ). record { first = x; second = y })
-    (coded _ _ _ _ _ (c .before .before .before .before .summed .ensures) tt tt tt)
-    (coded _ _ _ _ _ (c .summed2 .ensures) tt tt tt)
+unfolding codeWord
+returns c = rw (c .before .parity .ensures, c .parity2 .ensures)
 
 pub encode-pair-spec : {M : Type 1} → statement M
 encode-pair-spec =
     tie.close
     (tie.spec
-    cast-t8
-    mul-t9
-    summed-requires
-    cast-t14
-    add-t15
-    cast-t17
-    mul-t18
-    summed-requires-2
-    cast-t23
-    add-t24
+    cast-t4
+    mul-t5
+    parity-requires
+    cast-t7
+    add-t8
+    cast-t10
+    mul-t11
+    parity-requires-2
+    cast-t13
+    add-t14
     returns)
