@@ -113,7 +113,8 @@ static c7_find next_and_about_lines(const call_entry *entry)
 {
     c7_find find = next_line(entry);
 
-    printf("about 0 0 %lu\n", (unsigned long)find.repaired);
+    printf("about %lu %zu %lu\n", (unsigned long)find.began.tp, find.began.place,
+           (unsigned long)find.repaired);
     return find;
 }
 

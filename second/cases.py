@@ -175,6 +175,77 @@ def oversized():
 
 GROUPS = [(16, SMALL), (40, MEDIUM), (2051, [oversized()])]
 
+# Where finds began (R-4): TPs, then each answer with the TP number and place that it carries, then by how much the count rises.
+# None is told by the count before its call: the old one if the TP gave nothing else.
+PLACED_ROOM = 30
+OTHER_ROOM = "a call with a room of another length"
+
+PLACED_SMALL = [
+    ("a packet begun in this TP, and one begun in the TP before", [FULL, LONG_1, LONG_2],
+     ["ordinary 1 1 0", "none 1 0", "none 1 0", "ordinary 1 2 0", "none 3 0"], 3),
+    ("6 and 8 don't count and carry the count before them, 7 and 9 count",
+     [FULL, FULL[:15], tp(0, bytes(12), byte=0x10), tp(0, bytes(12), byte=0x01), with_word(FULL, BROKEN), b"", FULL],
+     ["ordinary 1 1 0", "none 1 0", "6 1 0", "8 1 0", "7 2 0", "9 3 0", "6 3 0", "ordinary 1 4 0", "none 4 0"], 4),
+    ("6 and 8 between two TPs of a packet", [LONG_1, LONG_2[:15], tp(0, bytes(12), byte=0xF1), LONG_2],
+     ["none 0 0", "6 1 0", "8 1 0", "ordinary 1 1 0", "none 2 0"], 2),
+    ("a gap keeps the count", [LONG_1, GAP, GAP, LONG_2, FULL],
+     ["none 0 0", "none 1 0", "ordinary 1 3 0", "none 3 0"], 3),
+    ("1 carries the count and doesn't raise it", [OTHER_ROOM, FULL, OTHER_ROOM],
+     ["1 0 0", "ordinary 1 1 0", "none 1 0", "1 1 0"], 1),
+    ("a joined packet began with its first piece, whose header is cut",
+     [tp(0, ep(0, WHOLE, data(4)), ep(1, FIRST, data(2))[:2]), tp(6, ep(1, FIRST, data(2))[2:], ep(1, MIDDLE, b"")),
+      tp(NO_START, ep(2, WHOLE, data(5)), b"\0", low=True), TAIL],
+     ["none 0 0", "none 1 0", "low 2 3 0", "none 3 0", "ordinary 1 1 10", "none 4 0"], 4),
+    ("a header cut by two TP ends began in the first",
+     [tp(0, ep(0, WHOLE, data(4)), ep(3, WHOLE, data(9))[:2]),
+      tp(NO_START, ep(1, WHOLE, data(4)), b"\0", ep(3, WHOLE, data(9))[2:3], low=True),
+      tp(NO_START, ep(3, WHOLE, data(9))[3:]), FULL],
+     ["none 0 0", "low 1 2 0", "none 2 0", "ordinary 3 1 10", "none 3 0", "ordinary 1 4 0", "none 4 0"], 4),
+    ("12 names a header begun here", [tp(6, ep(0, WHOLE, b""), BROKEN, bytes(3)), FULL],
+     ["12 1 6", "none 1 0", "ordinary 1 2 0", "none 2 0"], 2),
+    ("12 names a header begun earlier",
+     [tp(0, ep(0, WHOLE, data(5)), BROKEN[:1]), tp(2, BROKEN[1:], ep(1, WHOLE, data(4)))],
+     ["none 0 0", "12 1 11", "ordinary 1 2 2", "none 2 0"], 2),
+    ("10, 13 and 21 name the TP",
+     [FULL, tp(6, ep(0, WHOLE, b""), ep(1, WHOLE, b"")), tp(12, bytes(12)),
+      tp(6, EMPTY_LOW, b"\0", CUT_FILL, low=True)],
+     ["ordinary 1 1 0", "none 1 0", "13 2 0", "ordinary 1 2 6", "none 2 0", "10 3 0", "none 3 0", "low 1 4 0",
+      "21 4 0", "none 4 0"], 4),
+    ("13 in place of what a cut header would give, then a packet at the offset",
+     [tp(0, ep(0, WHOLE, data(3)), ep(9, WHOLE, b"")[:3]),
+      tp(5, ep(9, WHOLE, b"")[3:], data(2), ep(1, WHOLE, b"x"))],
+     ["none 0 0", "13 2 0", "ordinary 1 2 5", "none 2 0"], 2),
+    ("14 and 16 name an EP whose header began in the TP before",
+     [tp(0, ep(1, FIRST, b""), ep(9, WHOLE, data(3))[:6]), tp(3, data(3), ep(2, LAST, b"")[:6], bytes(3)),
+      tp(3, bytes(3), ep(9, MIDDLE, data(3))), tp(0, ep(0, WHOLE, b"x"), ep(9, FIRST, b"")[:5]),
+      tp(1, ep(9, FIRST, b"")[5:], ep(0, WHOLE, data(5)))],
+     ["14 1 6", "16 1 6", "none 1 0", "14 2 3", "none 2 0", "14 3 3", "none 3 0", "none 3 0", "16 4 7", "none 5 0"],
+     5),
+    ("15 names its EP, be it a later piece",
+     [HEAD, tp(0, ep(1, MIDDLE, data(6), 25)), tp(NO_START, data(12)), tp(7, data(7), ep(1, LAST, b"")[:5]),
+      tp(1, ep(1, LAST, b"")[5:], ep(0, WHOLE, data(5)))],
+     ["none 0 0", "15 2 0", "none 2 0", "none 2 0", "none 3 0", "14 4 7", "none 5 0"], 5),
+    ("11 names its LLEP", [tp(NO_START, BROKEN, bytes(9), low=True), tp(7, EMPTY_LOW, b"\xff", CUT_FILL, low=True)],
+     ["11 1 0", "none 1 0", "low 1 2 0", "11 2 7", "none 2 0"], 2),
+    ("11 with no byte left names P", [tp(NO_START, ep(1, WHOLE, data(5)), b"\xff", low=True)],
+     ["low 1 1 0", "11 1 12", "none 1 0"], 1),
+]
+
+PLACED_MEDIUM = [
+    ("low-latency packets and 16 name their own first byte, an ordinary one counts the low-latency part",
+     [tp(24, ep(1, WHOLE, b"a"), b"\xff", ep(0, WHOLE, b""), b"\xff", ep(2, FIRST, b"bc"), b"\0", ep(4, WHOLE, data(6)),
+         low=True)],
+     ["low 1 1 0", "16 1 15", "ordinary 4 1 24", "none 1 0"], 1),
+    ("a series broken by a first: the new series began there",
+     [tp(0, ep(1, FIRST, data(2)), ep(1, FIRST, data(2)), ep(1, LAST, b""), ep(3, WHOLE, data(8)))],
+     ["14 1 8", "ordinary 1 1 8", "ordinary 3 1 22", "none 1 0"], 1),
+    ("a series dropped by 15 gives its place to nobody",
+     [tp(0, ep(1, FIRST, data(2)), ep(1, MIDDLE, data(22), 29)), tp(7, data(7), ep(1, WHOLE, data(23)))],
+     ["15 1 8", "none 1 0", "ordinary 1 2 7", "none 2 0"], 2),
+]
+
+PLACED = [(16, PLACED_SMALL), (40, PLACED_MEDIUM)]
+
 
 def joined(group):
     """All cases of a group as one list of TPs with gaps between, and the lines expected of it."""

@@ -4,7 +4,8 @@ arrived."""
 import collections
 
 
-Found = collections.namedtuple("Found", "tp sort content data repaired")  # the TP, from 0, that handed it out
+# the TP, from 0, that handed it out; began: the TP, from 0, and the payload place of its first byte
+Found = collections.namedtuple("Found", "tp sort content data repaired began")
 
 
 def flip(tps, places, bits):
@@ -82,6 +83,7 @@ def expected(sender, tps, arrived):
             continue
         data = bytes(tps[number][byte] for number, byte in packet.data_places())
         key = (packet.ended_in(), packet.sort == "ordinary", order)
+        number, byte = packet.eps[0].places[0]
         finds.append((key, Found(packet.ended_in(), packet.sort, packet.content, data,
-                                 flips(sender, tps, checked_places(packet)))))
+                                 flips(sender, tps, checked_places(packet)), (number, byte - 4))))
     return [find for _, find in sorted(finds, key=lambda pair: pair[0])]

@@ -267,9 +267,8 @@ def faulty(rng, maker, rate):
     return out
 
 
-def list_recording(rng, records):
-    """Good records for the listing program: our sender's or another maker's TPs, under faults."""
-    tp_length, stream, piece = settings(rng)
+def faulty_stretch(rng, tp_length, stream, piece):
+    """Our sender's or another maker's TPs under faults, None for a gap; and their maker."""
     count = max(40, min(400, 80000 // tp_length))
     if rng.random() < 0.25:
         maker = packer.Sender(tp_length, stream, piece, PROGRAM_BUFFER, PROGRAM_BUFFER)
@@ -277,7 +276,13 @@ def list_recording(rng, records):
             maker.draw() if step is None else maker.offer(*step)
     else:
         maker = other_maker(rng, tp_length, stream, count)
-    stretch = faulty(rng, maker, rng.choice((0.005, 0.03, 0.1, 0.3, 0.8)))
+    return faulty(rng, maker, rng.choice((0.005, 0.03, 0.1, 0.3, 0.8))), maker
+
+
+def list_recording(rng, records):
+    """Good records for the listing program."""
+    tp_length, stream, piece = settings(rng)
+    stretch, maker = faulty_stretch(rng, tp_length, stream, piece)
     good = [records.setup(tp_length, stream, piece)]
     good += [records.record(records.GAP) if tp is None else records.record(records.TP, 0, tp) for tp in stretch]
     return good, maker
@@ -486,6 +491,19 @@ def receiver_calls(rng):
         if rng.random() < odd:
             yield from odd_calls(rng, tp, tp_length, room)
         yield call(rng.choice((ALL, ALL_ABOUT)), len(tp), 0, off(rng, room, 0.02))
+
+
+def place_calls(rng):
+    """One receiver, fed as the listing program is, which tells of each find where it began."""
+    tp_length, stream, piece = settings(rng)
+    room = rng.choice((20, 300, PROGRAM_BUFFER))
+    yield call(RECEIVER, tp_length, stream, room)
+    for tp in faulty_stretch(rng, tp_length, stream, piece)[0]:
+        if tp is None:
+            yield call(GAP)
+        else:
+            yield call(WRITE, 4, 0, data=tp)
+            yield call(ALL_ABOUT, len(tp), 0, room)
 
 
 def odd_calls(rng, tp, tp_length, room):

@@ -141,6 +141,36 @@ def flips_carried(run):
     same("flips carried", told, [(find, flips) for _, _, find, flips in CARRIED if find])
 
 
+def places_carried(run):
+    """Each case's finds with the TP number and the place that they carry, all cases through one receiver with gaps between."""
+    for tp_length, group in cases.PLACED:
+        entries, wanted, count = [inputs.call(inputs.RECEIVER, tp_length, 0, cases.PLACED_ROOM)], [], 0
+        for _, tps, lines, counted in group:
+            entries.append(inputs.call(inputs.GAP))
+            for tp in tps:
+                entries += placed_calls(tp)
+            for line in lines:
+                find, number, place = line.rsplit(" ", 2)
+                wanted.append("%s %d %s" % (find, int(number) + count, place))
+            count += counted
+        same("places with TP length %d" % tp_length, begins_told(run("calls", b"".join(entries)).decode()), wanted)
+
+
+def placed_calls(tp):
+    if tp is cases.GAP:
+        return [inputs.call(inputs.GAP)]
+    if tp is cases.OTHER_ROOM:
+        return [inputs.call(inputs.NEXT_ABOUT, 16, 0, cases.PLACED_ROOM + 1)]
+    return [inputs.call(inputs.WRITE, 4, 0, data=tp), inputs.call(inputs.ALL_ABOUT, len(tp), 0, cases.PLACED_ROOM)]
+
+
+def begins_told(text):
+    """What is found, with content or number, TP number and place."""
+    lines = [line.split() for line in text.splitlines() if line.startswith(("next", "about"))]
+    return [" ".join(find[1:3 if find[1] in ("low", "ordinary") else 2] + about[1:3])
+            for find, about in zip(lines[::2], lines[1::2], strict=True)]
+
+
 # ---- Chapter 11 packets, worked out by hand: channel 1, one byte of data, fill of 3, 7 and 4 bytes ----
 
 CHAPTER_11 = (
@@ -279,7 +309,8 @@ def round_trip_by_calls(run, what, sender, tps, starts):
     runs = heard(run("calls", listen_calls(sender, tps, starts)).decode())
     for start, finds in zip(starts, runs, strict=True):
         wanted = [(found.tp - start, [found.sort, str(found.content), str(len(found.data)), str(digest(found.data)),
-                                      "about", "0", "0", str(found.repaired)])
+                                      "about", str(found.began[0] - start + 1), str(found.began[1]),
+                                      str(found.repaired)])
                   for found in expected_from(sender, tps, start)]
         check_finds(what, start, finds, wanted)
 

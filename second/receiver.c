@@ -4,9 +4,9 @@
 
 static const c7_find none = {.sort = C7_FIND_NONE};
 
-static c7_find notice(unsigned number)
+static c7_find notice(unsigned number, c7_place began)
 {
-    return (c7_find){.sort = C7_FIND_NOTICE, .number = number};
+    return (c7_find){.sort = C7_FIND_NOTICE, .number = number, .began = began};
 }
 
 static bool is_find(c7_find find)
@@ -17,6 +17,18 @@ static bool is_find(c7_find find)
 static size_t payload_length(const c7_receiver *receiver)
 {
     return receiver->tp_length - C7_TP_HEADER;
+}
+
+/* What a find carries that names no EP. */
+static c7_place count_and_0(const c7_receiver *receiver)
+{
+    return (c7_place){.tp = receiver->count, .place = 0};
+}
+
+/* The next payload byte of the begun TP. */
+static c7_place here(const c7_receiver *receiver)
+{
+    return (c7_place){.tp = receiver->count, .place = receiver->at};
 }
 
 int c7_receiver_open(c7_receiver *receiver, size_t tp_length, unsigned stream,
@@ -79,14 +91,17 @@ static c7_find begin_tp(c7_receiver *receiver, const uint8_t *tp)
     uint32_t word;
 
     if (tp[0] >> 4 != receiver->stream)
-        return notice(C7_OTHER_STREAM);
+        return notice(C7_OTHER_STREAM, count_and_0(receiver));
+    /* The count stays at its largest number. */
+    if (receiver->count < UINT32_MAX)
+        receiver->count++;
     if ((tp[0] & C7_VERSION_BITS) != 0) {
         lose_step(receiver);
-        return notice(C7_BAD_VERSION);
+        return notice(C7_BAD_VERSION, count_and_0(receiver));
     }
     if (golay_decode(golay_word(tp + 1), &word) == GOLAY_BEYOND) {
         lose_step(receiver);
-        return notice(C7_TP_BEYOND_REPAIR);
+        return notice(C7_TP_BEYOND_REPAIR, count_and_0(receiver));
     }
     receiver->at = 0;
     receiver->offset = word & C7_OFFSET_BITS;
@@ -99,6 +114,7 @@ static c7_find read_low(c7_receiver *receiver, const uint8_t *payload)
 {
     size_t at = receiver->at;
     size_t rest = payload_length(receiver) - at;
+    c7_place began = here(receiver);
     c7_ep_header header;
     int end = END_BEYOND;
 
@@ -108,7 +124,7 @@ static c7_find read_low(c7_receiver *receiver, const uint8_t *payload)
     if (end == END_BEYOND) {
         lose_step(receiver);
         receiver->tp = C7_TP_DROPPED;
-        return notice(C7_LOW_BROKEN);
+        return notice(C7_LOW_BROKEN, began);
     }
     receiver->at = at + C7_EP_HEADER + header.length + C7_END_BYTE;
     if (end == END_LAST)
@@ -116,10 +132,11 @@ static c7_find read_low(c7_receiver *receiver, const uint8_t *payload)
     if (header.content == C7_FILL)
         return none;
     if (reserved(header.content) || header.fragment != C7_COMPLETE)
-        return notice(C7_NOT_READABLE);
+        return notice(C7_NOT_READABLE, began);
     return (c7_find){
         .sort = C7_FIND_LOW,
         .number = header.content,
+        .began = began,
         .start = C7_TP_HEADER + at + C7_EP_HEADER,
         .length = header.length,
         .repaired = header.repaired + golay_end_flips(payload[receiver->at - C7_END_BYTE], end),
@@ -167,17 +184,19 @@ static unsigned offset_fault(const c7_receiver *receiver)
 static c7_find judge_offset(c7_receiver *receiver, const uint8_t *payload)
 {
     unsigned number = offset_fault(receiver);
+    c7_place began = count_and_0(receiver);
     size_t start;
 
     if (number != C7_DONE) {
         lose_step(receiver);
         receiver->tp = C7_TP_DROPPED;
-        return notice(number);
+        return notice(number, began);
     }
     if (receiver->in_step) {
-        if (!foretell(receiver, payload, &start))
+        if (!foretell(receiver, payload, &start)) {
             number = C7_EP_BEYOND_REPAIR;
-        else if (start != receiver->offset)
+            began = receiver->ep_began;
+        } else if (start != receiver->offset)
             number = C7_OTHER_OFFSET;
         if (number == C7_DONE) {
             receiver->tp = C7_TP_ORDINARY;
@@ -186,7 +205,7 @@ static c7_find judge_offset(c7_receiver *receiver, const uint8_t *payload)
         lose_step(receiver);
     }
     resume(receiver);
-    return number == C7_DONE ? none : notice(number);
+    return number == C7_DONE ? none : notice(number, began);
 }
 
 /* Adds header bytes; 12 if they are whole and beyond repair. */
@@ -195,6 +214,8 @@ static c7_find read_header(c7_receiver *receiver, const uint8_t *payload)
     size_t run =
         c7_smaller(C7_EP_HEADER - receiver->have, payload_length(receiver) - receiver->at);
 
+    if (receiver->have == 0)
+        receiver->ep_began = here(receiver);
     memcpy(receiver->bytes + receiver->have, payload + receiver->at, run);
     receiver->have += run;
     receiver->at += run;
@@ -204,7 +225,7 @@ static c7_find read_header(c7_receiver *receiver, const uint8_t *payload)
     if (!c7_get_ep_header(receiver->bytes, &receiver->header)) {
         lose_step(receiver);
         receiver->tp = C7_TP_DROPPED;
-        return notice(C7_EP_BEYOND_REPAIR);
+        return notice(C7_EP_BEYOND_REPAIR, receiver->ep_began);
     }
     receiver->left = receiver->header.length;
     receiver->ep = C7_EP_SERIES;
@@ -224,7 +245,7 @@ static c7_find judge_series(c7_receiver *receiver)
     if (suits)
         return none;
     drop_held(receiver);
-    return notice(C7_SERIES_BROKEN);
+    return notice(C7_SERIES_BROKEN, receiver->ep_began);
 }
 
 /* 16, then 15. */
@@ -234,14 +255,16 @@ static c7_find judge_room(c7_receiver *receiver)
 
     if (reserved(header.content)) {
         receiver->ep = C7_EP_PASS;
-        return notice(C7_NOT_READABLE);
+        return notice(C7_NOT_READABLE, receiver->ep_began);
     }
     if (receiver->in_room + header.length > receiver->room_length) {
         drop_held(receiver);
         receiver->ep = C7_EP_PASS;
-        return notice(C7_ROOM_FULL);
+        return notice(C7_ROOM_FULL, receiver->ep_began);
     }
     receiver->ep = C7_EP_COPY;
+    if (!receiver->held)
+        receiver->sp_began = receiver->ep_began;
     /* The total stays at its largest number. */
     if (receiver->repaired > UINT32_MAX - header.repaired)
         receiver->repaired = UINT32_MAX;
@@ -278,6 +301,7 @@ static c7_find read_data(c7_receiver *receiver, const uint8_t *payload, uint8_t 
     c7_find packet = {
         .sort = C7_FIND_ORDINARY,
         .number = header.content,
+        .began = receiver->sp_began,
         .length = receiver->in_room,
         .repaired = receiver->repaired,
     };
@@ -319,17 +343,11 @@ static c7_find read_ordinary(c7_receiver *receiver, const uint8_t *payload, uint
     }
 }
 
-c7_find c7_next(c7_receiver *receiver, const uint8_t *tp, size_t tp_length, uint8_t *room,
-                size_t room_length)
+/* The next find of a TP of the right length. */
+static c7_find find_next(c7_receiver *receiver, const uint8_t *tp, uint8_t *room)
 {
-    c7_find find;
-
-    if (receiver->tp_length == 0 || room_length != receiver->room_length)
-        return (c7_find){.sort = C7_FIND_REFUSED, .number = C7_BAD_SETTING};
-    if (tp_length != receiver->tp_length)
-        return notice(C7_BAD_TP_LENGTH);
-
     const uint8_t *payload = tp + C7_TP_HEADER;
+    c7_find find;
 
     if (receiver->tp == C7_TP_NONE && is_find(find = begin_tp(receiver, tp)))
         return find;
@@ -342,6 +360,23 @@ c7_find c7_next(c7_receiver *receiver, const uint8_t *tp, size_t tp_length, uint
         return find;
     receiver->tp = C7_TP_NONE;
     return none;
+}
+
+c7_find c7_next(c7_receiver *receiver, const uint8_t *tp, size_t tp_length, uint8_t *room,
+                size_t room_length)
+{
+    c7_place before = count_and_0(receiver);
+
+    if (receiver->tp_length == 0 || room_length != receiver->room_length)
+        return (c7_find){.sort = C7_FIND_REFUSED, .number = C7_BAD_SETTING, .began = before};
+    if (tp_length != receiver->tp_length)
+        return notice(C7_BAD_TP_LENGTH, before);
+
+    c7_find find = find_next(receiver, tp, room);
+
+    if (!is_find(find))
+        find.began = before;
+    return find;
 }
 
 void c7_gap(c7_receiver *receiver)

@@ -12,9 +12,16 @@ typedef enum {
     C7_FIND_REFUSED   /* number 1 */
 } c7_find_sort;
 
+/* A payload byte: the number of its TP, as the receiver counts them, and where it stands. */
+typedef struct {
+    uint32_t tp;
+    size_t place;
+} c7_place;
+
 typedef struct {
     c7_find_sort sort;
     unsigned number; /* content of a packet, number of a notice or refusal */
+    c7_place began;  /* the first EP byte of a packet, or of the EP that a notice names */
     size_t start;    /* of the stretch, 0 without one */
     size_t length;
     uint32_t repaired; /* of a packet: flips in its EP headers and, if low-latency, its end byte */
@@ -43,13 +50,17 @@ typedef struct {
     size_t room_length;
     uint8_t stream;
 
+    uint32_t count; /* TPs of this length and stream since opening */
+
     bool in_step;
     c7_ep_phase ep;
+    c7_place ep_began; /* first byte of the unfinished EP, its header included */
     size_t have;
     uint8_t bytes[C7_EP_HEADER];
     c7_ep_header header;
     size_t left;    /* data bytes of the EP not yet read */
     size_t in_room; /* bytes of the SP in work or held */
+    c7_place sp_began; /* first byte of its first EP */
     uint32_t repaired; /* flips in its EP headers */
     bool held;
     uint8_t held_content;
