@@ -175,8 +175,8 @@ def oversized():
 
 GROUPS = [(16, SMALL), (40, MEDIUM), (2051, [oversized()])]
 
-# Where finds began: TPs, then each answer with the TP number and place that it carries, then by how much the count rises.
-# None is told by the count before its call: the old one if the TP gave nothing else.
+# Where finds began: TPs, then each answer with the TP number and place that it carries, then by how much the
+# count rises. None carries the count before its call: the old one if the TP gave nothing else.
 PLACED_ROOM = 30
 OTHER_ROOM = "a call with a room of another length"
 

@@ -47,7 +47,8 @@ static bool read_record(house_input *input, house_record *record, unsigned kinds
     input->at = input->next;
     if (got == 0)
         return false;
-    if (got < sizeof head)
+    input->cut = got < sizeof head;
+    if (input->cut)
         return stop(input, "the input ends inside the header");
 
     size_t length =
@@ -56,7 +57,8 @@ static bool read_record(house_input *input, house_record *record, unsigned kinds
 
     if (wrong != NULL)
         return stop(input, wrong);
-    if (length > 0 && fread(record->data, 1, length, input->file) < length)
+    input->cut = length > 0 && fread(record->data, 1, length, input->file) < length;
+    if (input->cut)
         return stop(input, "the input ends inside the data");
     record->kind = head[2];
     record->content = head[3];

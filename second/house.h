@@ -38,6 +38,7 @@ typedef struct {
     unsigned long long at;   /* of the record read last */
     unsigned long long next; /* of the record to come */
     const char *wrong;       /* what stopped the reading, if anything did */
+    bool cut;                /* the input ends inside a record */
 } house_input;
 
 house_input house_open(FILE *file, unsigned kinds);

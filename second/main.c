@@ -32,6 +32,12 @@ int main(int count, char **words)
     for (size_t i = 0; i < sizeof commands / sizeof *commands; i++)
         if (count == 2 && strcmp(words[1], commands[i].name) == 0)
             return commands[i].run();
-    fprintf(stderr, "usage: c7 send|list|read|pack|unpack|calls|vectors|words|longest\n");
+    if (count > 1 && strcmp(words[1], "index") == 0)
+        return command_index(count - 2, words + 2);
+    if (count > 1 && strcmp(words[1], "at") == 0)
+        return command_at(count - 2, words + 2);
+    fprintf(stderr, "usage: c7 send|list|read|pack|unpack|calls|vectors|words|longest\n"
+                    "       c7 index RECORDING INDEX\n"
+                    "       c7 at RECORDING RECORD PLACE SORT\n");
     return EXIT_FAILURE;
 }

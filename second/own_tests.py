@@ -142,7 +142,7 @@ def flips_carried(run):
 
 
 def places_carried(run):
-    """Each case's finds with the TP number and the place that they carry, all cases through one receiver with gaps between."""
+    """Each case's finds with the TP number and the place that they carry; one receiver hears all, with gaps between."""
     for tp_length, group in cases.PLACED:
         entries, wanted, count = [inputs.call(inputs.RECEIVER, tp_length, 0, cases.PLACED_ROOM)], [], 0
         for _, tps, lines, counted in group:

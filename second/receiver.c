@@ -385,6 +385,12 @@ void c7_gap(c7_receiver *receiver)
     receiver->tp = C7_TP_NONE;
 }
 
+bool c7_unfinished(const c7_receiver *receiver, c7_place *began)
+{
+    *began = receiver->held ? receiver->sp_began : receiver->ep_began;
+    return receiver->held || receiver->have > 0;
+}
+
 const uint8_t *c7_stretch(c7_find find, const uint8_t *tp, size_t tp_length, const uint8_t *room,
                           size_t room_length)
 {

@@ -55,7 +55,7 @@ typedef struct {
     bool in_step;
     c7_ep_phase ep;
     c7_place ep_began; /* first byte of the unfinished EP, its header included */
-    size_t have;
+    size_t have; /* of its header's bytes */
     uint8_t bytes[C7_EP_HEADER];
     c7_ep_header header;
     size_t left;    /* data bytes of the EP not yet read */
@@ -80,6 +80,9 @@ c7_find c7_next(c7_receiver *receiver, const uint8_t *tp, size_t tp_length, uint
 
 /* Bytes were lost here: ends a begun TP and step. */
 void c7_gap(c7_receiver *receiver);
+
+/* Where the held series began, else the unfinished EP, if there is one. */
+bool c7_unfinished(const c7_receiver *receiver, c7_place *began);
 
 /* First byte of a packet's stretch in what was lent; NULL for a find without one. */
 const uint8_t *c7_stretch(c7_find find, const uint8_t *tp, size_t tp_length, const uint8_t *room,
