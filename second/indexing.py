@@ -17,6 +17,7 @@ Answer = collections.namedtuple("Answer", "status told output index")
 EXACT = ("refused 23", "not an index", "no such packet")
 STOPPED = re.compile(r"record at byte (\d+): (?!refused)")
 LINE_0 = re.compile(rb"covered (\d{20}) since (\d{20}) end (\d{20}) from (\d{20}) size (\d{20})\n")
+FOREIGN_SHARES = (0, 0, 0.1, 0.5)
 LARGEST = 2 ** 64 - 1
 
 
@@ -120,6 +121,177 @@ def repeat(side, names, steps):
     with tempfile.TemporaryDirectory() as folder:
         desk = Desk(side, folder, names)
         return [desk.do(step) for step in steps]
+
+
+# ---- stories ----
+
+def recording(rng, records):
+    """Records under faults, with TPs of another stream among them."""
+    tp_length, stream, piece = inputs.settings(rng)
+    stretch = inputs.faulty_stretch(rng, tp_length, stream, piece)[0]
+    share = rng.choice(FOREIGN_SHARES)
+    foreign = inputs.other_maker(rng, tp_length, (stream + rng.randrange(1, 16)) % 16, 5).tps
+    mixed = []
+    for tp in stretch:
+        while rng.random() < share:
+            mixed.append(rng.choice(foreign))
+        mixed.append(tp)
+    return own_tests.recording(records, tp_length, mixed, stream, piece)
+
+
+def some_cuts(rng, parts):
+    """Lengths of a recording that grows to its whole: inside records, between them, now and then not at all."""
+    whole = sum(map(len, parts))
+    between = [sum(map(len, parts[:count])) for count in rng.sample(range(1, len(parts) + 1), 4)]
+    inside = [rng.randrange(13, whole + 1) for _ in range(4)]
+    near = [place + rng.choice((-1, 1, 7, 8, 9)) for place in between]
+    cuts = rng.sample([place for place in between + inside + near if 13 <= place <= whole], rng.randrange(1, 8))
+    return sorted(cuts + rng.sample(cuts, rng.randrange(2))) + [whole]
+
+
+def growing(rng, records):
+    """A recording grows, its index with it; between the growths the index or the recording comes to harm and is put
+    back, and packets are asked for."""
+    parts = recording(rng, records)
+    bad = rng.choice(inputs.bad_records(records, False)) if rng.random() < 0.4 else b""
+    whole = b"".join(parts)
+    if rng.random() < 0.4:
+        yield from not_begun(rng, records)
+    for cut in some_cuts(rng, parts):
+        data = whole[:cut] + (bad if cut == len(whole) else b"")
+        yield "recording", data
+        index = without_tail((yield ("index",)).index)
+        if rng.random() < 0.3:
+            yield ("index",)
+        if rng.random() < 0.5:
+            yield from harmed(rng, data, index)
+        yield from asked(rng, index)
+
+
+def not_begun(rng, records):
+    """No good setup, with no index or one that is too short to be one: nothing is made."""
+    yield "recording", rng.choice(inputs.bad_starts(records))
+    yield "index file", rng.choice((None, b"", b"covered 0000", bytes(132)))
+    yield ("index",)
+
+
+def not_an_index(rng, index):
+    """An index, changed so that line 0 doesn't read so."""
+    covered, since, end, begin, size = numbers_of(index)
+    place = rng.randrange(133)
+    other = bytes([rng.choice(b"\0 -+x\n\xff")])
+    return rng.choice((
+        lambda: index[:place] + (other if other != index[place:place + 1] else b"y") + index[place + 1:],
+        lambda: index[:rng.randrange(133, len(index))] if len(index) > 133 else b"x" * 133,
+        lambda: line_0(covered, since, end, begin, len(index) + 1) + index[133:],
+        lambda: line_0(covered, since, end, begin, rng.choice((0, 132))) + index[133:],
+        lambda: line_0(covered, since, end, begin, LARGEST) + index[133:],
+        lambda: index.replace(b"since 0", b"since 9", 1),
+        lambda: line_0(LARGEST + 1, since, end, begin, size) + index[133:],
+        lambda: index[1:] + b"\n",
+        lambda: b"\n" + index,
+        lambda: rng.randbytes(rng.randrange(133, 400)),
+    ))()
+
+
+def harmed(rng, data, index):
+    """One harm, what the program makes of it, and all put back."""
+    end = numbers_of(index)[2]
+    shorter = data[:rng.choice((0, 12, 13, end - 1, rng.randrange(end)))]
+    shorter = shorter if len(shorter) < end else data[:end - 1]
+    harm = rng.randrange(8)
+    if harm == 0:  # a growth that was killed
+        yield "index file", index + rng.choice((b"1", b"7 0 low 1 1\n", rng.randbytes(500)))
+        yield ("index",)
+        return
+    if harm == 1:
+        yield "index file", index[:rng.choice((0, 1, 132, rng.randrange(133)))]
+    elif harm == 2:
+        yield "index file", None
+    elif harm <= 4:
+        yield "index file", not_an_index(rng, index)
+        if rng.random() < 0.3:
+            yield "recording", shorter
+    elif harm <= 6:
+        yield "recording", shorter
+    else:
+        yield "recording", rng.choice((b"\xc8", b"\xc7\x07\x04")) + data[3:]
+    yield ("index",)
+    yield "recording", data
+    yield "index file", index
+
+
+def asked(rng, index):
+    """The packet of a line, and of any place."""
+    lines = index[133:].decode().splitlines()
+    covered = numbers_of(index)[0]
+    if lines and rng.random() < 0.7:
+        record, place, sort, _, _ = rng.choice(lines).split()
+        yield "at", record, place, sort
+    if rng.random() < 0.3:
+        yield ("at", rng.choice((0, 1, covered - 1, covered, covered + 1, rng.randrange(covered + 1))),
+               rng.choice((0, 1, 11, 12, 2047, rng.randrange(60))), rng.choice(("low", "ordinary")))
+
+
+# ---- what is seen without the other side ----
+
+def kinds_reached(steps, answers):
+    """What the steps of a story reached, as told by the second program's answers."""
+    data, before = b"", None
+    for step, answer in zip(steps, answers, strict=True):
+        if step[0] == "recording":
+            data = step[1]
+        elif step[0] == "index file":
+            before = step[1]
+        elif step[0] == "at":
+            yield "a packet asked for" if answer.status == 0 else "no such packet"
+        else:
+            yield kind_reached(data, before, answer)
+            if answer.status == 0 and numbers_of(answer.index)[2] < len(data):
+                yield "a cut record"
+            before = answer.index
+
+
+def kind_reached(data, before, answer):
+    if answer.told and answer.told[0] in ("c7index: refused 23", "c7index: not an index"):
+        return answer.told[0].split(": ")[1]
+    if answer.told:
+        return "no setup" if answer.told[0].endswith(" 0") else "a bad record"
+    if before is None or len(before) < 133:
+        return "made"
+    covered, since, _, _, _ = numbers_of(before)
+    if numbers_of(answer.index)[0] == covered:
+        return "nothing new"
+    if since == 0:
+        return "grown from its end"
+    return "grown from its last record" if since == covered - 1 else "grown from an earlier record"
+
+
+REACHED = ("made", "grown from its end", "grown from its last record", "grown from an earlier record", "nothing new",
+           "a cut record", "a bad record", "no setup", "refused 23", "not an index", "a packet asked for",
+           "no such packet")
+
+
+def check_story(run, records, steps, answers):
+    """An index's lines are the packets that are read out, in order, and asking for a line gives that very packet."""
+    data, packets, index = b"", [], None
+    for step, answer in zip(steps, answers, strict=True):
+        if step[0] == "recording":
+            data = step[1]
+        elif step[0] == "index file":
+            index = step[1]
+        elif step[0] == "index" and (answer.status == 0 or answer.index != index):
+            index = without_tail(answer.index)
+            end = numbers_of(index)[2]
+            packets = records.split(run("read", data[:end]))[0][1:]
+            same("the lines' packets", [line.split()[2:] for line in index[133:].decode().splitlines()],
+                 [[("", "ordinary", "low")[one[2]], str(one[3]), str(len(one) - 8)] for one in packets])
+        elif step[0] == "at":
+            wanted = [packet for line, packet in zip(index[133:].decode().splitlines(), packets, strict=True)
+                      if line.split()[2] == step[3] and
+                      tuple(map(int, line.split()[:2])) >= (int(step[1]), int(step[2]))]
+            if wanted:
+                same("the packet asked for", answer.output, wanted[0])
 
 
 # ---- indexes that are known from where each byte went ----
