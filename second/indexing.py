@@ -215,7 +215,7 @@ def harmed(rng, data, index):
     elif harm <= 6:
         yield "recording", shorter
     else:
-        yield "recording", rng.choice((b"\xc8", b"\xc7\x07\x04")) + data[3:]
+        yield "recording", rng.choice((b"\xc8\x07\0", b"\xc7\x07\4")) + data[3:]
     yield ("index",)
     yield "recording", data
     yield "index file", index
@@ -246,13 +246,13 @@ def kinds_reached(steps, answers):
         elif step[0] == "at":
             yield "a packet asked for" if answer.status == 0 else "no such packet"
         else:
-            yield kind_reached(data, before, answer)
+            yield kind_reached(before, answer)
             if answer.status == 0 and numbers_of(answer.index)[2] < len(data):
                 yield "a cut record"
             before = answer.index
 
 
-def kind_reached(data, before, answer):
+def kind_reached(before, answer):
     if answer.told and answer.told[0] in ("c7index: refused 23", "c7index: not an index"):
         return answer.told[0].split(": ")[1]
     if answer.told:
@@ -273,7 +273,8 @@ REACHED = ("made", "grown from its end", "grown from its last record", "grown fr
 
 
 def check_story(run, records, steps, answers):
-    """An index's lines are the packets that are read out, in order, and asking for a line gives that very packet."""
+    """An index's lines are the packets that are read out, in order, and what is asked for is the first of its sort
+    among them that began there or later."""
     data, packets, index = b"", [], None
     for step, answer in zip(steps, answers, strict=True):
         if step[0] == "recording":
@@ -290,8 +291,7 @@ def check_story(run, records, steps, answers):
             wanted = [packet for line, packet in zip(index[133:].decode().splitlines(), packets, strict=True)
                       if line.split()[2] == step[3] and
                       tuple(map(int, line.split()[:2])) >= (int(step[1]), int(step[2]))]
-            if wanted:
-                same("the packet asked for", answer.output, wanted[0])
+            same("the packet asked for", answer.output, wanted[0] if wanted else b"")
 
 
 # ---- indexes that are known from where each byte went ----
