@@ -269,7 +269,7 @@ int command_index(int count, char **words)
     FILE *lines = tmpfile();
 
     head = make(recording, UINT64_MAX, lines);
-    if (head.covered > old.covered && !write_index(words[1], head, lines))
+    if (!write_index(words[1], head, lines))
         return fail(program, "cannot write the index");
     return finish(program);
 }

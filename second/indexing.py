@@ -30,11 +30,6 @@ def numbers_of(index):
     return [int(number) for number in LINE_0.match(index).groups()]
 
 
-def without_tail(index):
-    """The bytes that line 0 counts, if it does."""
-    return index[:numbers_of(index)[4]] if LINE_0.match(index) and numbers_of(index)[4] >= 133 else index
-
-
 def index_of(covered, since, end, begin, lines):
     text = b"".join(line.encode() + b"\n" for line in lines)
     return line_0(covered, since, end, begin, 133 + len(text)) + text
@@ -66,7 +61,6 @@ class Desk:
         self.recording = os.path.join(folder, "recording")
         self.index = os.path.join(folder, "index")
         self.names = names
-        self.given = None  # the index file, if there were bytes behind the index
 
     def do(self, step):
         if step[0] == "recording":
@@ -74,16 +68,10 @@ class Desk:
             return None
         if step[0] == "index file":
             write(self.index, step[1])
-            self.given = step[1] if step[1] and without_tail(step[1]) != step[1] else None
             return None
         words = [self.index] if step[0] == "index" else [str(word) for word in step[1:]]
         status, output, errors = self.side.ask(step[0], [self.recording] + words)
-        return Answer(status, told(errors, self.names[step[0]]), output, self.left())
-
-    def left(self):
-        """The index file; of bytes behind the index nothing is said once it has grown."""
-        index = contents(self.index)
-        return index if self.given in (None, index) or index is None else without_tail(index)
+        return Answer(status, told(errors, self.names[step[0]]), output, contents(self.index))
 
 
 def write(path, data):
@@ -160,7 +148,7 @@ def growing(rng, records):
     for cut in some_cuts(rng, parts):
         data = whole[:cut] + (bad if cut == len(whole) else b"")
         yield "recording", data
-        index = without_tail((yield ("index",)).index)
+        index = (yield ("index",)).index
         if rng.random() < 0.3:
             yield ("index",)
         if rng.random() < 0.5:
@@ -282,7 +270,7 @@ def check_story(run, records, steps, answers):
         elif step[0] == "index file":
             index = step[1]
         elif step[0] == "index" and (answer.status == 0 or answer.index != index):
-            index = without_tail(answer.index)
+            index = answer.index
             end = numbers_of(index)[2]
             packets = records.split(run("read", data[:end]))[0][1:]
             same("the lines' packets", [line.split()[2:] for line in index[133:].decode().splitlines()],
@@ -378,6 +366,7 @@ def examples(run, names, records):
     index("too short for line 0", whole, two[:132], two)
     index("empty", whole, b"", two)
     index("a growth that was killed", whole, one + b"1 9 ord", two)
+    index("a growth that was killed, and nothing new", whole, two + b"1 9 ord", two)
     index("23", whole[:60], two, two, "refused 23")
     index("23 before the setup", b"", two, two, "refused 23")
     index("none", whole, b"x" * 133, b"x" * 133, "not an index")
