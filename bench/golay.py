@@ -1,5 +1,5 @@
-"""The Golay coders by themselves, by kind of word: our words program, the second program's, and liquid-dsp's where it
-can be had. Each is told to do nothing with the same words as well (second/words.h), and that is subtracted."""
+"""The Golay coders by themselves, by kind of word: our words program, the tuned opponent's, the second program's, and
+liquid-dsp's where it can be had. Each is told to do nothing with the same words as well (second/words.h), and that is subtracted."""
 import glob
 import os
 import random
@@ -102,7 +102,8 @@ class Coder:
 
 def coders(folder):
     """Each coder that is there, ours first."""
-    named = [("ours", Program(os.path.join(folder, "words"))), ("second", Program(programs.SECOND, "words"))]
+    named = [("ours", Program(os.path.join(folder, "words"))), ("tuned", Program(programs.TUNED, "words")),
+             ("second", Program(programs.SECOND, "words"))]
     library = liquid_library()
     if library:
         named.append(("liquid-dsp", liquid(library)))
@@ -134,16 +135,16 @@ def ratio(own, other):
 
 
 def print_table(folder):
-    """Answers whether ours and the second program's answers differed."""
+    """Answers whether the answers of ours, the tuned opponent and the second program differed."""
     there = coders(folder)
     compared = there[0].name == "ours"
     failed = False
     print("\nGolay: instructions a word, beyond those of reading it and digesting the answer (the last line)\n")
-    print_head([coder.name for coder in there] + ["ratio"] * compared)
+    print_head([coder.name for coder in there] + ["to tuned"] * compared)
     for kind in KINDS:
         costs, answers = zip(*[coder.cost(kind) for coder in there])
         print_line(kind, ["%.1f" % cost for cost in costs] + [ratio(*costs[:2])] * compared)
-        if compared and answers[0] != answers[1]:
+        if len({answer for coder, answer in zip(there, answers) if coder.name != "liquid-dsp"}) > 1:
             print("THE ANSWERS DIFFER")
             failed = True
     print_line("nothing", ["%.1f" % coder.cost_of_nothing() for coder in there] + ["-"] * compared)

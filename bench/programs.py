@@ -1,4 +1,5 @@
-"""The programs under measurement: ours as rt built them, and the second program built for x86-64 with gcc -O3."""
+"""What is measured: our programs as rt built them, the tuned opponent and the second program, built for x86-64 with
+gcc -O3; and the driver of calls, linked with each side's ends."""
 import os
 import platform
 import re
@@ -13,6 +14,8 @@ icount = load_tool("icount")
 
 BENCH = os.path.join(ROOT, "target", "bench")
 SECOND = os.path.join(BENCH, "c7")
+TUNED = os.path.join(BENCH, "tuned")
+LIBRARY = os.path.join(ROOT, "target", "staticlib", "libjenugathi.a")
 NATIVE = platform.machine() == "x86_64"
 COMPILER = "gcc" if NATIVE else "x86_64-linux-gnu-gcc"
 PACKAGES = ["gcc", "libc6-dev", "valgrind"] if NATIVE else ["gcc-x86-64-linux-gnu", "libc6-dev-amd64-cross"]
@@ -54,11 +57,38 @@ def sources_of_second():
         return re.search(r"^sources='(.*)'$", file.read(), re.MULTILINE)[1].split()
 
 
-def build_second():
+def built(what, words, **where):
     os.makedirs(BENCH, exist_ok=True)
-    words = [COMPILER, "-std=c17", "-O3", "-static"] + sources_of_second() + ["-o", SECOND]
-    if subprocess.run(words, cwd=os.path.join(ROOT, "second")).returncode != 0:
-        sys.exit("bench/run: the second program cannot be built")
+    if subprocess.run(words, **where).returncode != 0:
+        sys.exit("bench/run: %s cannot be built" % what)
+
+
+def in_bench(*names):
+    return os.path.join(ROOT, "bench", *names)
+
+
+def build_programs():
+    second = [COMPILER, "-std=c17", "-O3", "-static"] + sources_of_second() + ["-o", SECOND]
+    built("the second program", second, cwd=os.path.join(ROOT, "second"))
+    built("the tuned opponent", [in_bench("tuned", "build"), COMPILER, TUNED, "-O3", "-flto", "-static", "-no-pie", "-fno-pie"])
+
+
+def driver(side):
+    return os.path.join(BENCH, "driver-" + side)
+
+
+def build_drivers():
+    """One for each side whose ends can be linked; each source by itself, as a caller of a library would."""
+    second, tuned = os.path.join(ROOT, "second"), in_bench("tuned")
+    sources = ["golay.c", "sender.c", "receiver.c"]
+    linked = {"second": ("c7.h", [second], [os.path.join(second, one) for one in sources]),
+              "tuned": ("c7.h", [tuned, second], [os.path.join(tuned, one) for one in sources])}
+    if os.path.exists(LIBRARY):
+        linked["ours"] = ("library.h", [os.path.join(ROOT, "include")], [LIBRARY])
+    for side, (backend, folders, ends) in linked.items():
+        words = [COMPILER, "-std=c17", "-O3", "-static", '-DBACKEND="%s"' % backend, "-I", in_bench("calls")]
+        words += [word for folder in folders for word in ("-I", folder)]
+        built("the driver of calls (%s)" % side, words + [in_bench("calls", "driver.c")] + ends + ["-o", driver(side)])
 
 
 class Program:

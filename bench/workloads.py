@@ -2,6 +2,8 @@
 
 Document 01's longest packet of 131,072 bytes cannot come in a script: a house record holds 32,768 bytes and
 the programs' queues are as long. `longest` goes through programs of its own (second/longest.c), which make the calls.
+For the driver of calls (calls/driver.c) every workload is house records, those of `longest` longer than the programs
+would take.
 """
 import os
 import random
@@ -35,6 +37,8 @@ STREAM = 5
 Setup = namedtuple("Setup", "tp_length piece")
 # What a program reads, and how much of it is its start-up, whose cost is subtracted.
 Input = namedtuple("Input", "data start")
+# What the driver of calls reads, and the lengths of the queues and of the room.
+Steps = namedtuple("Steps", "data queue room")
 # Each end's input, None where there is none; the payload bytes of all TPs; and which programs read it.
 Workload = namedtuple("Workload", "script recording payload through", defaults=["house records"])
 
@@ -119,12 +123,33 @@ FRAGMENTS = Setup(1784, 64)
 TINY = Setup(16, NO_FRAGMENTS)
 
 
+LONGEST_QUEUE, LONGEST_ROOM = 262144, 131072
+
+
+def longest_steps(count):
+    packet = bytes(i % 251 for i in range(131072))
+    return ([("ordinary", packet)] + [("draw",)] * 65) * count
+
+
 def longest(count):
     """Packets of 131,072 bytes, each in 65 TPs; the sending side makes them itself."""
-    packet = bytes(i % 251 for i in range(131072))
-    tps = sent(LONGEST, ([("ordinary", packet)] + [("draw",)] * 65) * count, 262144).tps
+    tps = sent(LONGEST, longest_steps(count), LONGEST_QUEUE).tps
     return Workload(Input(b"\1" + count.to_bytes(2, "big"), b""), Input(b"\2" + b"".join(tps), b"\2"),
                     len(tps) * payload_length(LONGEST), "calls")
+
+
+def steps_of(work, end):
+    """A workload for the driver of calls; none if the end has nothing to do."""
+    one = work.script if end == "sender" else work.recording
+    if one is None or work.through != "calls":
+        return one and Steps(one.data, QUEUE, QUEUE)
+    data, length = one.data, LONGEST.tp_length
+    if end == "sender":
+        made = script_of(LONGEST, longest_steps(int.from_bytes(data[1:], "big")))
+    else:
+        tps = [data[at:at + length] for at in range(1, len(data), length)]
+        made = received_only(LONGEST, tps).recording
+    return Steps(made.data, LONGEST_QUEUE, LONGEST_ROOM)
 
 
 def damaged(name, count):
