@@ -1,5 +1,5 @@
-"""The calls by themselves, without house records and printing: one driver (calls/driver.c), linked with each side's ends.
-It takes a workload apart before it makes the calls, so two rounds of them less one are the calls alone."""
+"""The calls by themselves, without house records and printing: one driver (calls/driver.c), linked with each side's
+ends. It takes a workload apart before it makes the calls, so two rounds of them less one are the calls alone."""
 import os
 import statistics
 

@@ -1,5 +1,6 @@
 """The Golay coders by themselves, by kind of word: our words program, the tuned opponent's, the second program's, and
-liquid-dsp's where it can be had. Each is told to do nothing with the same words as well (second/words.h), and that is subtracted."""
+liquid-dsp's where it can be had. Each is told to do nothing with the same words as well (second/words.h), and that is
+subtracted."""
 import glob
 import os
 import random

@@ -70,7 +70,8 @@ def in_bench(*names):
 def build_programs():
     second = [COMPILER, "-std=c17", "-O3", "-static"] + sources_of_second() + ["-o", SECOND]
     built("the second program", second, cwd=os.path.join(ROOT, "second"))
-    built("the tuned opponent", [in_bench("tuned", "build"), COMPILER, TUNED, "-O3", "-flto", "-static", "-no-pie", "-fno-pie"])
+    tuned = [in_bench("tuned", "build"), COMPILER, TUNED, "-O3", "-flto", "-static", "-no-pie", "-fno-pie"]
+    built("the tuned opponent", tuned)
 
 
 def driver(side):

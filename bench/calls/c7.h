@@ -8,8 +8,8 @@ enum { END_LOW = C7_FIND_LOW, END_ORDINARY = C7_FIND_ORDINARY, END_NOTICE = C7_F
 
 typedef struct {
     unsigned sort, number;
-    size_t start, length, place;
-    uint32_t repaired, tp;
+    size_t start, length;
+    uint32_t repaired;
 } end_find;
 
 static c7_sender end_sender;
@@ -54,8 +54,7 @@ static inline end_find end_next(const settings *s, const uint8_t *tp, size_t len
 {
     c7_find find = c7_next(&end_receiver, tp, length, s->room, s->room_length);
 
-    return (end_find){find.sort,        find.number,   find.start,   find.length,
-                      find.began.place, find.repaired, find.began.tp};
+    return (end_find){find.sort, find.number, find.start, find.length, find.repaired};
 }
 
 static inline void end_gap(void)

@@ -78,12 +78,10 @@ ROUND receive_round(const settings *s, bool checked)
             if (checked) {
                 const uint8_t *data = find.sort == END_LOW ? one->data : s->room;
 
-                take(find.sort);
+                take(find.sort == END_LOW ? 1 : find.sort == END_ORDINARY ? 2 : find.sort == END_NOTICE ? 3 : 0);
                 take(find.number);
                 take_bytes(data + find.start, find.length);
                 take(find.repaired);
-                take(find.tp);
-                take(find.place);
                 calls++;
             }
         } while (find.sort == END_LOW || find.sort == END_ORDINARY || (find.sort == END_NOTICE && find.number > 9));

@@ -6,7 +6,7 @@
 enum { END_LOW = C7_LOW, END_ORDINARY = C7_ORDINARY, END_NOTICE = C7_NOTICE };
 
 typedef struct {
-    uint64_t sort, number, start, length, place, repaired, tp;
+    uint64_t sort, number, start, length, repaired;
 } end_find;
 
 static c7_sender end_sender;
@@ -44,8 +44,9 @@ static inline end_find end_next(const settings *s, const uint8_t *tp, size_t len
 {
     c7_find find;
 
-    c7_receiver_next(&end_receiver, tp, length, s->room, s->room_length, &find);
-    return (end_find){find.sort, find.what, find.start, find.len, find.place, find.repaired, find.tp};
+    if (c7_receiver_next(&end_receiver, tp, length, s->room, s->room_length, &find) == C7_LIMITS)
+        return (end_find){.sort = C7_NOTHING};
+    return (end_find){find.sort, find.what, find.start, find.length, find.repaired};
 }
 
 static inline void end_gap(void)
