@@ -15,7 +15,7 @@ use Rattle.queue.proofs.Takes.{held-off, kept-off}
 use Rattle.wire.specs.Wire.{ep, tpHeader}
 use Rattle.wire.proofs.Laws.{ep-length}
 use Rattle.sender.specs.Answers as A
-use Rattle.sender.specs.Drawing.{overwritten, leave, some, part, fill, lacking, stream, owedAfter, under, offset, Draw, drawWith, drawOf, drawBy, took}
+use Rattle.sender.specs.Drawing.{overwritten, leave, present, part, fill, lacking, stream, owedAfter, restAfter, offset, Draw, drawWith, drawOf, drawBy, took}
 use Rattle.sender.specs.Drawing as D
 use Rattle.receiver.specs.Low.{wire}
 use Rattle.sender.specs.Run.{draw, World, Tp, drew, next, deed, leaving, filling}
@@ -106,7 +106,7 @@ module _ (P str F ls os : ℕ) (top : P ≤ 2047) (piece₁ : 1 ≤ F) (piece₂
   o′ : Ring
   o′ = off os o n
 
-  facts : Facts P str F ls os top piece₁ piece₂ (out .stay) (t .oc′ ++ t .qc′) l′ o′ (owedAfter r ow Q) (under n Q re) lb ob (t .oc′) (t .qc′)
+  facts : Facts P str F ls os top piece₁ piece₂ (out .stay) (t .oc′ ++ t .qc′) l′ o′ (owedAfter r ow Q) (restAfter n Q re) lb ob (t .oc′) (t .qc′)
   unfolding l′ o′ n
   facts =
       let el : length lb ≡ ls = f .el in
@@ -128,15 +128,15 @@ module _ (P str F ls os : ℕ) (top : P ≤ 2047) (piece₁ : 1 ≤ F) (piece₂
   -- ---- the TP
 
   T : List ℕ
-  T = tpHeader str (some (lleps now)) (offset L (ow + re) r) ++ (part (lleps now) ++ take r (stream r ow Q))
+  T = tpHeader str (present (lleps now)) (offset L (ow + re) r) ++ (part (lleps now) ++ take r (stream r ow Q))
 
-  T-is : T ≡ tpHeader str (some (lleps now)) (offset (length (part (lleps now))) (before wire (t .own)) (length (t .own))) ++ (part (lleps now) ++ bytes wire (t .own))
+  T-is : T ≡ tpHeader str (present (lleps now)) (offset (length (part (lleps now))) (before wire (t .own)) (length (t .own))) ++ (part (lleps now) ++ bytes wire (t .own))
   unfolding T L
   T-is =
-      ap₂ (λ (a : ℕ) (b : List ℕ). tpHeader str (some (lleps now)) a ++ (part (lleps now) ++ b)) (sym (t .first (length (part (lleps now))))) (sym (t .bytes-are))
+      ap₂ (λ (a : ℕ) (b : List ℕ). tpHeader str (present (lleps now)) a ++ (part (lleps now) ++ b)) (sym (t .first (length (part (lleps now))))) (sym (t .bytes-are))
 
   drawn : Draw
-  drawn = record { tp = T; lowGone = gone; gone = n; owed = owedAfter r ow Q; rest = under n Q re }
+  drawn = record { tp = T; lowGone = gone; gone = n; owed = owedAfter r ow Q; rest = restAfter n Q re }
 
   draw-is : drawBy (W .sender) lb ob ≡ drawn
   unfolding drawBy drawOf drawWith drawn T n r L Q gone
@@ -172,13 +172,13 @@ module _ (P str F ls os : ℕ) (top : P ≤ 2047) (piece₁ : 1 ≤ F) (piece₂
 
   -- ---- the call
 
-  after : Steps P str F ls os top piece₁ piece₂ (world P str F ls os top piece₁ piece₂ l′ o′ (owedAfter r ow Q) (under n Q re) lb ob) (drew tp) lows pend
+  after : Steps P str F ls os top piece₁ piece₂ (world P str F ls os top piece₁ piece₂ l′ o′ (owedAfter r ow Q) (restAfter n Q re) lb ob) (drew tp) lows pend
   unfolding now
   after =
       record {
         lows′ = out .stay;
         pend′ = t .oc′ ++ t .qc′;
-        holds = hold P str F ls os top piece₁ piece₂ (out .stay) (t .oc′ ++ t .qc′) l′ o′ (owedAfter r ow Q) (under n Q re) lb ob (t .oc′) (t .qc′) facts;
+        holds = hold P str F ls os top piece₁ piece₂ (out .stay) (t .oc′ ++ t .qc′) l′ o′ (owedAfter r ow Q) (restAfter n Q re) lb ob (t .oc′) (t .qc′) facts;
         flows = record {
           loads = record { now = now; own = t .own } ∷ [];
           tps-are = (tp-is, tt);

@@ -14,7 +14,7 @@ use Rattle.sender.specs.Answers.{lent}
 use Rattle.sender.specs.Opening.{allowed, small, fresh, opened}
 use Rattle.receiver.specs.Call.{freshOf}
 use Rattle.sender.specs.Offering.{pieces, spBytes, known, wantOrdinary, ordinaryOffered, wantLow, lowOffered}
-use Rattle.sender.specs.Drawing.{headAt, sizeIn, contentIn, lowIn, lowAt, overwritten, leave, part, fill, lacking, stream, owedAfter, span, under, offset, drawWith, drawOf, drawBy}
+use Rattle.sender.specs.Drawing.{headAt, sizeIn, contentIn, lowIn, lowAt, overwritten, leave, part, fill, lacking, stream, owedAfter, span, restAfter, offset, drawWith, drawOf, drawBy}
 use Rattle.sender.specs.Drawing as D
 use Rattle.sender.specs.Run.{Tp, Call, ordinary, low, draw, World, Deed, took, tookLow, drew, deeds, tps}
 use Rattle.downlink.specs.Hearing as H
@@ -55,7 +55,7 @@ done =
     ∷ drew (record { bytes = second; lleps = []; fill = 0x00 ∷ 0x00 ∷ 0x00 ∷ 0x00 ∷ 0x29 ∷ 0x3E ∷ 0xAA ∷ 0xAA ∷ [] }) ∷ []
 
 pub did : deeds world calls ≡ done
-unfolding room world tp calls first second llep done codeWord chosen word firstNumber header ep streamByte offsetNumber tpHeader around held longer written wrap off lent known pieces spBytes wantOrdinary ordinaryOffered wantLow lowOffered headAt sizeIn contentIn lowIn lowAt overwritten D.next leave part fill lacking stream owedAfter span under offset drawWith drawOf drawBy D.drew flatten
+unfolding room world tp calls first second llep done codeWord chosen word firstNumber header ep streamByte offsetNumber tpHeader around held longer written wrap off lent known pieces spBytes wantOrdinary ordinaryOffered wantLow lowOffered headAt sizeIn contentIn lowIn lowAt overwritten D.next leave part fill lacking stream owedAfter span restAfter offset drawWith drawOf drawBy D.drew flatten
 did = refl
 
 -- a draw of a sender with nothing queued
@@ -68,7 +68,7 @@ blank =
     }
 
 pub filled : deeds world (draw tp ∷ []) ≡ drew blank ∷ []
-unfolding room world tp blank codeWord chosen word firstNumber header ep streamByte offsetNumber tpHeader around held longer written wrap off lent known pieces spBytes wantOrdinary ordinaryOffered wantLow lowOffered headAt sizeIn contentIn lowIn lowAt overwritten D.next leave part fill lacking stream owedAfter span under offset drawWith drawOf drawBy D.drew flatten
+unfolding room world tp blank codeWord chosen word firstNumber header ep streamByte offsetNumber tpHeader around held longer written wrap off lent known pieces spBytes wantOrdinary ordinaryOffered wantLow lowOffered headAt sizeIn contentIn lowIn lowAt overwritten D.next leave part fill lacking stream owedAfter span restAfter offset drawWith drawOf drawBy D.drew flatten
 filled = refl
 
 -- ---- what is due

@@ -15,7 +15,7 @@ use Rattle.wire.specs.Wire.{word, firstNumber, ep, offsetNumber, tpHeader}
 use Rattle.wire.proofs.Laws.{word-length, ep-length, tp-header-length}
 use Rattle.sender.specs.declared.Answer.the-variants.{Done}
 use Rattle.sender.specs.Opening.{opened}
-use Rattle.sender.specs.Drawing.{some, part, offset}
+use Rattle.sender.specs.Drawing.{present, part, offset}
 use Rattle.receiver.specs.Low.{wire}
 use Rattle.sender.specs.Run.{Call, World, Tp, tps, deeds, left, undrawn}
 use Rattle.downlink.specs.Damage.{Item, filler, packet, items, eps, allEps, drawn, ordinaryOf, Bytes, Near, NearEnd, HeadNear, EpsNear, LlepsNear, TpNear, TpsNear, Damaged}
@@ -78,13 +78,13 @@ unfolding part
 lleps-near [] z = tt
 lleps-near (p ∷ ps) z =
     let e : List ℕ = llep p in
-    let b : ℕ = cond (some (lleps ps)) 0xFF 0x00 in
+    let b : ℕ = cond (present (lleps ps)) 0xFF 0x00 in
     let rest : List ℕ = part (lleps ps) ++ z in
     let a : (e ++ b ∷ part (lleps ps)) ++ z ≡ e ++ b ∷ rest = append-assoc e (b ∷ part (lleps ps)) z in
     let n : length (e ++ b ∷ []) ≡ 1 + length e = omega (arith, length-append e (b ∷ [])) in
     subst⁻¹ (LlepsNear (e ∷ lleps ps)) a (
       head-near (p .0) 0 (p .1) (b ∷ rest),
-      subst⁻¹ (NearEnd b) (getD-at e b rest 0 (length e) refl) (near-end (some (lleps ps))),
+      subst⁻¹ (NearEnd b) (getD-at e b rest 0 (length e) refl) (near-end (present (lleps ps))),
       subst⁻¹ (LlepsNear (lleps ps)) (ap (drop (1 + length e)) (sym (append-assoc e (b ∷ []) rest)) ∙ drop-at (e ++ b ∷ []) rest (1 + length e) n) (lleps-near ps z),
     )
 
@@ -99,17 +99,17 @@ module _ (P str F : ℕ) (top : P ≤ 2047) where
     payload = part (lleps (l .now)) ++ bytes wire (l .own)
 
     pub payload-is : drop 4 (t .bytes) ≡ payload
-    payload-is = ap (drop 4) (is .bytes-are) ∙ drop-at (tpHeader str (some (lleps (l .now))) o) payload 4 (tp-header-length str (some (lleps (l .now))) o)
+    payload-is = ap (drop 4) (is .bytes-are) ∙ drop-at (tpHeader str (present (lleps (l .now))) o) payload 4 (tp-header-length str (present (lleps (l .now))) o)
 
-    word-is : take 3 (drop 1 (t .bytes)) ≡ word (offsetNumber (some (lleps (l .now))) o)
+    word-is : take 3 (drop 1 (t .bytes)) ≡ word (offsetNumber (present (lleps (l .now))) o)
     unfolding tpHeader
-    word-is = ap (λ z. take 3 (drop 1 z)) (is .bytes-are) ∙ take-at (word (offsetNumber (some (lleps (l .now))) o)) payload 3 (word-length (offsetNumber (some (lleps (l .now))) o))
+    word-is = ap (λ z. take 3 (drop 1 z)) (is .bytes-are) ∙ take-at (word (offsetNumber (present (lleps (l .now))) o)) payload 3 (word-length (offsetNumber (present (lleps (l .now))) o))
 
     tp-near : TpNear t (t .bytes)
     tp-near = (
       refl,
       refl,
-      near-word (offsetNumber (some (lleps (l .now))) o) (take 3 (drop 1 (t .bytes))) (take 3 (drop 1 (t .bytes))) word-is word-is,
+      near-word (offsetNumber (present (lleps (l .now))) o) (take 3 (drop 1 (t .bytes))) (take 3 (drop 1 (t .bytes))) word-is word-is,
       subst⁻¹ (λ (es : List (List ℕ)). LlepsNear es (drop 4 (t .bytes))) (is .lleps-are) (subst⁻¹ (LlepsNear (lleps (l .now))) payload-is (lleps-near (l .now) (bytes wire (l .own)))),
     )
 

@@ -14,7 +14,7 @@ use Rattle.wire.proofs.Laws.{tp-header-length}
 use Rattle.sender.specs.declared.Answer.the-variants.{Done}
 use Rattle.sender.specs.Opening.{opened}
 use Rattle.sender.specs.Drawing as D
-use Rattle.sender.specs.Drawing.{overwritten, leave, some, part, offset}
+use Rattle.sender.specs.Drawing.{overwritten, leave, present, part, offset}
 use Rattle.sender.specs.Run.{Call, draw, World, Tp, drew, leaving, deed, deeds, left, undrawn, tps}
 use Rattle.receiver.specs.Low.{wire}
 use Rattle.downlink.specs.Hearing.{Packet}
@@ -57,16 +57,16 @@ module _ (P str F : ℕ) (top : P ≤ 2047) where
   own-is : (t : Tp) (l : Load) → TpIs P str F top t l → drop (4 + length (part (t .lleps))) (t .bytes) ≡ bytes wire (l .own)
   own-is t l is =
       let q = part (lleps (l .now)) in
-      let h = tpHeader str (some (lleps (l .now))) (offset (length q) (before wire (l .own)) (length (l .own))) in
+      let h = tpHeader str (present (lleps (l .now))) (offset (length q) (before wire (l .own)) (length (l .own))) in
       let e : t .bytes ≡ (h ++ q) ++ bytes wire (l .own) = is .bytes-are ∙ sym (append-assoc h q (bytes wire (l .own))) in
       ap₂ (λ (n : ℕ) (b : List ℕ). drop n b) (ap (λ x. 4 + length (part x)) (is .lleps-are)) e
       ∙ drop-at (h ++ q) (bytes wire (l .own)) (4 + length q)
-      (omega (arith, length-append h q, tp-header-length str (some (lleps (l .now))) (offset (length q) (before wire (l .own)) (length (l .own)))))
+      (omega (arith, length-append h q, tp-header-length str (present (lleps (l .now))) (offset (length q) (before wire (l .own)) (length (l .own)))))
 
   long : (t : Tp) (l : Load) → TpIs P str F top t l → length (t .bytes) ≡ 4 + P
   long t l is =
       let q = part (lleps (l .now)) in
-      let h = tpHeader str (some (lleps (l .now))) (offset (length q) (before wire (l .own)) (length (l .own))) in
+      let h = tpHeader str (present (lleps (l .now))) (offset (length q) (before wire (l .own)) (length (l .own))) in
       ap length (is .bytes-are)
       ∙ omega (
         arith,
@@ -74,7 +74,7 @@ module _ (P str F : ℕ) (top : P ≤ 2047) where
         length-append q (bytes wire (l .own)),
         bytes-length (l .own),
         is .full,
-        tp-header-length str (some (lleps (l .now))) (offset (length q) (before wire (l .own)) (length (l .own))),
+        tp-header-length str (present (lleps (l .now))) (offset (length q) (before wire (l .own)) (length (l .own))),
       )
 
   all-long : (ts : List Tp) (ls : List Load) → TpsAre P str F top ts ls → AllOf (4 + P) ts

@@ -5,7 +5,7 @@ use mathlib.Core.List.{List, [], _∷_, _++_, append-assoc, append-nil}
 use lib.ListN.{length, replicate}
 use Rattle.wire.specs.Wire.{ep, tpHeader}
 use Rattle.sender.specs.Offering.{pieces}
-use Rattle.sender.specs.Drawing.{some, part, offset}
+use Rattle.sender.specs.Drawing.{present, part, offset}
 use Rattle.receiver.specs.Low.{wire}
 use Rattle.sender.specs.Run.{Tp, Deed, refused, took, tookLow, drew, tps}
 use Rattle.downlink.specs.Damage.{Item, filler, packet, fillers, items, eps}
@@ -49,7 +49,7 @@ module _ (P str F : ℕ) (top : P ≤ 2047) where
     pub lows-ok : LowsOk P top (l .now)
     pub full : length (part (lleps (l .now))) + length (l .own) ≡ P
     pub bytes-are : t .bytes
-        ≡ tpHeader str (some (lleps (l .now))) (offset (length (part (lleps (l .now)))) (before wire (l .own)) (length (l .own)))
+        ≡ tpHeader str (present (lleps (l .now))) (offset (length (part (lleps (l .now)))) (before wire (l .own)) (length (l .own)))
         ++ (part (lleps (l .now)) ++ bytes wire (l .own))
 
   abbrev pub TpsAre : List Tp → List Load → Type 0

@@ -13,7 +13,7 @@ use Rattle.digits.specs.Digits.{number}
 use Rattle.wire.specs.Wire.{header, ep}
 use Rattle.wire.proofs.Laws.{ep-length}
 use Rattle.sender.specs.Offering.{known}
-use Rattle.sender.specs.Drawing.{headAt, sizeIn, contentIn, lowIn, lowAt, overwritten, next, leave, some, part}
+use Rattle.sender.specs.Drawing.{headAt, sizeIn, contentIn, lowIn, lowAt, overwritten, next, leave, present, part}
 use Rattle.downlink.specs.Hearing.{Packet}
 use Rattle.downlink.proofs.Heads.{size-in, content-in, head-at}
 
@@ -129,7 +129,7 @@ module _ (P : ℕ) (top : P ≤ 2047) where
   pub part-cons : (p : Packet) (ps : List Packet) → length (part (lleps (p ∷ ps))) ≡ 7 + length (p .1) + length (part (lleps ps))
   unfolding part
   part-cons p ps =
-      omega (arith, length-append (llep p) (cond (some (lleps ps)) 0xFF 0x00 ∷ part (lleps ps)), ep-length (p .0) 0 (p .1))
+      omega (arith, length-append (llep p) (cond (present (lleps ps)) 0xFF 0x00 ∷ part (lleps ps)), ep-length (p .0) 0 (p .1))
 
   pub no-part : length (part []) ≡ 0
   unfolding part

@@ -10,7 +10,7 @@ use lib.ListN.{length, take, drop}
 use lib.Seq.{take-append-le, drop-nil}
 use Rattle.wire.specs.Wire.{ep}
 use Rattle.wire.proofs.Laws.{ep-length}
-use Rattle.sender.specs.Drawing.{headAt, sizeIn, span, under}
+use Rattle.sender.specs.Drawing.{headAt, sizeIn, span, restAfter}
 use Rattle.receiver.specs.Low.{wire}
 use Rattle.downlink.proofs.Window.{bytes, before, bytes-append}
 use Rattle.downlink.proofs.Trains.{plain, bytes-plain}
@@ -145,8 +145,8 @@ span-whole : (q : List ℕ) → 6 + sizeIn (headAt q) ≤ length q → span q - 
 unfolding span
 span-whole q h = omega arith
 
-pub good-drop : (n r : ℕ) (x : Cells) → Good r x → n ≤ length x → Good (under n (bytes wire x) r) (drop n x)
-unfolding Good under
+pub good-drop : (n r : ℕ) (x : Cells) → Good r x → n ≤ length x → Good (restAfter n (bytes wire x) r) (drop n x)
+unfolding Good restAfter
 good-drop zero r x g h = g
 good-drop (suc n) r [] g h = absurd (omega arith)
 good-drop (suc n) zero (c ∷ x) g h =

@@ -11,7 +11,7 @@ use lib.Seq.{take-at, drop-at}
 use Rattle.wire.specs.Wire.{header, ep}
 use Rattle.wire.proofs.Laws.{header-length, ep-length}
 use Rattle.sender.specs.Offering.{later, pieces, spBytes}
-use Rattle.sender.specs.Drawing.{some, part}
+use Rattle.sender.specs.Drawing.{present, part}
 use Rattle.downlink.specs.Hearing.{Packet}
 use Rattle.downlink.specs.Due.{bodies}
 use Rattle.downlink.proofs.Lows.{llep, lleps}
@@ -76,7 +76,7 @@ lows-back [] z = refl
 lows-back (p ∷ ps) z =
     let e : List ℕ = llep p in
     let n : ℕ = length (p .1) in
-    let b : ℕ = cond (some (lleps ps)) 0xFF 0x00 in
+    let b : ℕ = cond (present (lleps ps)) 0xFF 0x00 in
     let rest : List ℕ = part (lleps ps) ++ z in
     let l : length (e ++ b ∷ []) ≡ 7 + n = omega (arith, length-append e (b ∷ []), ep-length (p .0) 0 (p .1)) in
     let a : (e ++ b ∷ part (lleps ps)) ++ z ≡ e ++ (b ∷ rest) = append-assoc e (b ∷ part (lleps ps)) z in

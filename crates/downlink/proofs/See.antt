@@ -48,12 +48,12 @@ lowsFound (p ∷ ps) bs = low (beginOf (lowHead p bs)) (take (length (p .1)) (dr
 -- ---- the low-latency part
 
 module _ (P : ℕ) (top : P ≤ 2047) where
-  closes : (h : Header) (ps : List Packet) (b : ℕ) → NearEnd (cond (D.some (lleps ps)) 0xFF 0x00) b → L.ended (endOf b) h ≡ Whole h (D.some (lleps ps))
+  closes : (h : Header) (ps : List Packet) (b : ℕ) → NearEnd (cond (D.present (lleps ps)) 0xFF 0x00) b → L.ended (endOf b) h ≡ Whole h (D.present (lleps ps))
   closes h [] b near = ap (λ (e : End). L.ended e h) (end-last b near)
   closes h (p ∷ ps) b near = ap (λ (e : End). L.ended e h) (end-more b near)
 
   llep-is : (p : Packet) (ps : List Packet) (bs : List ℕ) → LowOk P top p → LlepsNear (lleps (p ∷ ps)) bs → 7 + length (p .1) ≤ length bs
-      → llep bs ≡ Whole (lowHead p bs) (D.some (lleps ps))
+      → llep bs ≡ Whole (lowHead p bs) (D.present (lleps ps))
   unfolding llep sized
   llep-is p ps bs ok near enough =
       let c : ℕ = p .0 in
@@ -61,13 +61,13 @@ module _ (P : ℕ) (top : P ≤ 2047) where
       let c₆ : c ≤ 6 = ok .1 in
       let m : 7 + n ≤ P = ok .2 in
       let e : headerOf (take 6 bs) ≡ some (headOf c 0 n (flipsIn c 0 (p .1) bs)) = header-reads c 0 (p .1) bs (omega arith) (omega arith) (omega arith) (omega arith) (near .0) in
-      let end : NearEnd (cond (D.some (lleps ps)) 0xFF 0x00) (getD bs (6 + n) 0) =
-      subst (λ (k : ℕ). NearEnd (cond (D.some (lleps ps)) 0xFF 0x00) (getD bs k 0)) (ep-length c 0 (p .1)) (near .1) in
+      let end : NearEnd (cond (D.present (lleps ps)) 0xFF 0x00) (getD bs (6 + n) 0) =
+      subst (λ (k : ℕ). NearEnd (cond (D.present (lleps ps)) 0xFF 0x00) (getD bs k 0)) (ep-length c 0 (p .1)) (near .1) in
       rw (le-ltb (length bs) 7 (omega arith), e, le-ltb (length bs) (7 + n) enough) (closes (lowHead p bs) ps (getD bs (6 + n) 0) end)
 
   walk-one : (k : ℕ) (p : Packet) (ps : List Packet) (bs : List ℕ) → LowOk P top p → LlepsNear (lleps (p ∷ ps)) bs → 7 + length (p .1) ≤ length bs
       → walk (suc k) bs ≡ ahead (low (beginOf (lowHead p bs)) (take (length (p .1)) (drop 6 bs)) ∷ [])
-      (cond (D.some (lleps ps)) (walk k (drop (7 + length (p .1)) bs)) (record { finds = []; behind = some (drop (7 + length (p .1)) bs) }))
+      (cond (D.present (lleps ps)) (walk k (drop (7 + length (p .1)) bs)) (record { finds = []; behind = some (drop (7 + length (p .1)) bs) }))
   unfolding walk
   walk-one k p ps bs ok near enough =
       rw (llep-is p ps bs ok near enough, kind-complete (p .0) (length (p .1)) (lowHead p bs .flips) (ok .0) (ok .1))
@@ -92,7 +92,7 @@ module _ (P : ℕ) (top : P ≤ 2047) where
       ∙ ap (λ x. record { finds = lowsFound (r ∷ ps) (drop n bs); behind = some x }) (drop-drop (length (D.part (lleps (r ∷ ps)))) n bs ∙ ap (λ (z : ℕ). drop z bs) n-is))
 
   pub low-part : (ps : List Packet) (bs : List ℕ) → LowsOk P top ps → LlepsNear (lleps ps) bs → length (D.part (lleps ps)) ≤ length bs
-      → lowPartIf (D.some (lleps ps)) bs ≡ record { finds = lowsFound ps bs; behind = some (drop (length (D.part (lleps ps))) bs) }
+      → lowPartIf (D.present (lleps ps)) bs ≡ record { finds = lowsFound ps bs; behind = some (drop (length (D.part (lleps ps))) bs) }
   unfolding lowPart
   low-part [] bs ok near m = ap (λ (n : ℕ). record { finds = []; behind = some (drop n bs) }) (sym (Y.no-part P top))
   low-part (p ∷ ps) bs ok near m = walks (suc (length bs)) p ps bs ok near m (omega arith)
@@ -141,7 +141,7 @@ module _ (size str F P room : ℕ) (top : P ≤ 2047) (size-is : size ≡ 4 + P)
   a = before wire (l .own)
 
   abbrev flag : Bool
-  flag = D.some (lleps now)
+  flag = D.present (lleps now)
 
   abbrev o : ℕ
   o = offset g a (length (l .own))

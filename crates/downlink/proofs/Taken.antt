@@ -7,7 +7,7 @@ use mathlib.Core.List.{List, [], _++_, append-assoc, append-nil}
 use native.Mathlib.Omega.{arith}
 use lib.ListN.{length, take, drop, replicate, length-append, length-replicate, replicate-append-replicate, drop-of-length-le, take-append-drop}
 use lib.Seq.{length-take-le}
-use Rattle.sender.specs.Drawing.{fill, lacking, stream, owedAfter, under, offset}
+use Rattle.sender.specs.Drawing.{fill, lacking, stream, owedAfter, restAfter, offset}
 use Rattle.receiver.specs.Low.{wire}
 use Rattle.downlink.proofs.Window.{bytes, bytes-append, before}
 use Rattle.downlink.proofs.Marks.{Cells, bytes-length, bytes-take, bytes-drop, before-take, drop-min, epCells, ep-bytes, Plain, plain-before, plain-drop, plain-append, Good, good-before, good-append, good-drop}
@@ -25,7 +25,7 @@ pub record Taken (oc qc : Cells) (ow re r : ℕ) (Q : List ℕ) : Type 0 where
   pub plain : Plain oc′
   pub zeros : bytes wire oc′ ≡ replicate (owedAfter r ow Q) 0
   pub queued : bytes wire qc′ ≡ drop (min (r - ow) (length Q)) Q
-  pub good : Good (under (min (r - ow) (length Q)) Q re) qc′
+  pub good : Good (restAfter (min (r - ow) (length Q)) Q re) qc′
   pub flows : own ++ (oc′ ++ qc′) ≡ (oc ++ qc) ++ epCells (fill (lacking r ow Q))
 
 module _ (oc qc : Cells) (ow re r : ℕ) (Q : List ℕ) (plain : Plain oc) (zeros : bytes wire oc ≡ replicate ow 0) (queued : bytes wire qc ≡ Q)
@@ -143,6 +143,6 @@ module _ (oc qc : Cells) (ow re r : ℕ) (Q : List ℕ) (plain : Plain oc) (zero
         plain = plain-left;
         zeros = zeros-left;
         queued = bytes-drop n qc ∙ ap (drop n) queued;
-        good = subst (λ (z : List ℕ). Good (under n z re) (drop n qc)) queued (good-drop n re qc good (omega (arith, queue-length)));
+        good = subst (λ (z : List ℕ). Good (restAfter n z re) (drop n qc)) queued (good-drop n re qc good (omega (arith, queue-length)));
         flows = ap (λ z. take r all ++ z) (sym left-is) ∙ take-append-drop r all ∙ sym (append-assoc oc qc fc);
       }

@@ -7,7 +7,7 @@ use lib.ListN.{length, take, drop, getD}
 use Rattle.digits.specs.Digits.{number}
 use Rattle.golay.specs.Golay.{distance, byteDistance}
 use Rattle.sender.specs.Offering.{pieces}
-use Rattle.sender.specs.Drawing.{some, part}
+use Rattle.sender.specs.Drawing.{present, part}
 use Rattle.sender.specs.Run.{Tp, Deed, refused, took, tookLow, drew}
 
 -- ---- what the ordinary bytes are made of, in order
@@ -78,7 +78,7 @@ EpsNear (e ∷ es) got = HeadNear e got × EpsNear es (drop (length e) got)
 abbrev pub LlepsNear : List (List ℕ) → List ℕ → Type 0
 LlepsNear [] got = Unit {0}
 LlepsNear (e ∷ es) got =
-    HeadNear e got × NearEnd (cond (some es) 0xFF 0x00) (getD got (length e) 0) × LlepsNear es (drop (1 + length e) got)
+    HeadNear e got × NearEnd (cond (present es) 0xFF 0x00) (getD got (length e) 0) × LlepsNear es (drop (1 + length e) got)
 
 -- a TP but for its ordinary bytes: length and stream byte intact, its word, its low-latency part
 abbrev pub TpNear : Tp → List ℕ → Type 0

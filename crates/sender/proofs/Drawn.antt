@@ -20,16 +20,16 @@ use Rattle.sender.specs.declared.Sender.{Sender}
 use Rattle.sender.specs.declared.Answer.the-variants.{Done}
 use Rattle.sender.specs.Answers.{Left, refused, lent}
 use Rattle.sender.specs.Opening.{Sound}
-use Rattle.sender.specs.Drawing.{leave, some, part, stream, owedAfter, under, offset, drawWith, drawOf, took, drawBy, overwritten, drew}
+use Rattle.sender.specs.Drawing.{leave, present, part, stream, owedAfter, restAfter, offset, drawWith, drawOf, took, drawBy, overwritten, drew}
 use Rattle.sender.specs.Steps.{Parted, Filled}
 use Rattle.sender.proofs.Bools.{split}
 use Rattle.sender.proofs.Stream.{owed-least}
 
 -- the flag: the part has bytes
-some-tells : (es : List (List ℕ)) → ltb 0 (length (part es)) ≡ some es
+some-tells : (es : List (List ℕ)) → ltb 0 (length (part es)) ≡ present es
 unfolding part
 some-tells [] = refl
-some-tells (e ∷ es) = lt-ltb 0 (length (part (e ∷ es))) (some-bytes e (cond (some es) 0xFF 0x00) (part es))
+some-tells (e ∷ es) = lt-ltb 0 (length (part (e ∷ es))) (some-bytes e (cond (present es) 0xFF 0x00) (part es))
   where
     some-bytes : (e : List ℕ) (x : ℕ) (r : List ℕ) → 0 < length (e ++ x ∷ r)
     some-bytes e x r = omega (arith, length-append e (x ∷ r))
@@ -66,7 +66,7 @@ module _ (s : Sender) (w : Sound s) (low own d d₁ d₂ : List ℕ) (t u : Ring
   drawn-length d₃ h e = rw (e, length-copied d₂ h 0, o .same, p .same)
 
   pub finished : (first : Bool) (off′ rest : ℕ) (h d₃ : List ℕ) → off′ ≡ offset (at - 4) (s .owed + s .rest) (s .setting .payload + 4 - at)
-      → first ≡ ltb 4 at → h ≡ tpHeader (s .setting .stream) first off′ → d₃ ≡ copied d₂ 0 h → rest ≡ under n (held own (s .ordinary)) (s .rest)
+      → first ≡ ltb 4 at → h ≡ tpHeader (s .setting .stream) first off′ → d₃ ≡ copied d₂ 0 h → rest ≡ restAfter n (held own (s .ordinary)) (s .rest)
       → record { answer = Done (record { setting = s .setting; low = t; ordinary = u; owed = ow; rest = rest }); buffer = d₃ } ≡ took s (drawBy s low own)
   unfolding drawBy drawOf drawWith
   finished first off′ rest h d₃ en ef eh c₃ er =
@@ -81,14 +81,14 @@ module _ (s : Sender) (w : Sound s) (low own d d₁ d₂ : List ℕ) (t u : Ring
       let f₁ : at - 4 ≡ L = omega arith in
       let f₂ : P + 4 - at ≡ P - L = omega arith in
       let f₃ : length d₁ - at ≡ P - L = omega arith in
-      let fl : first ≡ some es = ef ∙ rw (pe) (more-than-four L) ∙ some-tells es in
-      let hn : h ≡ tpHeader str (some es) (offset L (s .owed + s .rest) (P - L)) = eh ∙ rw (fl, en, f₁, f₂) refl in
-      let lh : length h ≡ 4 = rw hn (tp-header-length str (some es) (offset L (s .owed + s .rest) (P - L))) in
+      let fl : first ≡ present es = ef ∙ rw (pe) (more-than-four L) ∙ some-tells es in
+      let hn : h ≡ tpHeader str (present es) (offset L (s .owed + s .rest) (P - L)) = eh ∙ rw (fl, en, f₁, f₂) refl in
+      let lh : length h ≡ 4 = rw hn (tp-header-length str (present es) (offset L (s .owed + s .rest) (P - L))) in
       let l4 : length (take 4 d) ≡ 4 = length-take-le 4 d (omega arith) in
       let e₃ : d₃ ≡ paste d₂ 0 h (length h) = c₃ ∙ copied-all d₂ h 0 (omega (arith, o .same)) in
       let body : d₂ ≡ take 4 d ++ (part es ++ take (P - L) (stream (P - L) (s .owed) Q)) =
       o .bytes ∙ rw (f₃, p .bytes) (append-assoc (take 4 d) (part es) (take (P - L) (stream (P - L) (s .owed) Q))) in
-      let tp : d₃ ≡ tpHeader str (some es) (offset L (s .owed + s .rest) (P - L)) ++ (part es ++ take (P - L) (stream (P - L) (s .owed) Q)) =
+      let tp : d₃ ≡ tpHeader str (present es) (offset L (s .owed + s .rest) (P - L)) ++ (part es ++ take (P - L) (stream (P - L) (s .owed) Q)) =
       e₃ ∙ topped d₂ h (take 4 d) (part es ++ take (P - L) (stream (P - L) (s .owed) Q)) l4 lh body ∙ ap (λ (z : List ℕ). z ++ (part es ++ take (P - L) (stream (P - L) (s .owed) Q))) hn in
       let g : n ≡ min (P - L - s .owed) (length Q) = o .gone ∙ rw f₃ refl in
       let oe : ow ≡ owedAfter (P - L) (s .owed) Q = o .left ∙ rw f₃ refl in

@@ -9,7 +9,7 @@ use lib.ListN.{length, take, drop, replicate, length-append, length-replicate}
 use lib.Seq.{length-take-le}
 use Rattle.wire.specs.Wire.{tpHeader}
 use Rattle.wire.proofs.Laws.{tp-header-length}
-use Rattle.sender.specs.Drawing.{next, leave, none-leaves, one-leaves, some, part, fill, lacking, stream, offset, drawWith, drawOf}
+use Rattle.sender.specs.Drawing.{next, leave, none-leaves, one-leaves, present, part, fill, lacking, stream, offset, drawWith, drawOf}
 use Rattle.sender.proofs.Bools.{split}
 use Rattle.sender.proofs.Heads.{next-within}
 use Rattle.sender.proofs.Stream.{fill-enough}
@@ -17,7 +17,7 @@ use Rattle.sender.proofs.Drawn.{offset-within, offset-none}
 
 part-cons : (e : List ℕ) (es : List (List ℕ)) → length (part (e ∷ es)) ≡ length e + (1 + length (part es))
 unfolding part
-part-cons e es = length-append e (cond (some es) 0xFF 0x00 ∷ part es) ∙ omega arith
+part-cons e es = length-append e (cond (present es) 0xFF 0x00 ∷ part es) ∙ omega arith
 
 -- the bound on the number of LLEPs says nothing, once it is above what is left
 pub leave-any : (k j P : ℕ) (q : List ℕ) (left : ℕ) → left < k → left < j → leave k P q left ≡ leave j P q left
@@ -67,8 +67,8 @@ tp-length P str low q owed rest =
     omega (
       arith,
       part-fits (suc P) P low P,
-      length-append (tpHeader str (some es) o) (part es ++ take r (stream r owed q)),
-      tp-header-length str (some es) o,
+      length-append (tpHeader str (present es) o) (part es ++ take r (stream r owed q)),
+      tp-header-length str (present es) o,
       length-append (part es) (take r (stream r owed q)),
       length-take-le r (stream r owed q) (stream-enough r owed q),
     )

@@ -6,7 +6,7 @@ pub mod PutPieces
 pub mod Offers
 pub mod Heads
 pub mod Lows
-pub mod Under
+pub mod RestAfter
 pub mod Stream
 pub mod Drawn
 pub mod Lengths

@@ -13,17 +13,17 @@ use Rattle.queue.specs.declared.Ring.{Ring}
 use Rattle.queue.specs.Ring.{Left, held, off, Kept, popped}
 use Rattle.queue.proofs.Puts.{length-held}
 use Rattle.queue.proofs.Takes.{pop-fits, kept-off, held-off, off-zero, off-off}
-use Rattle.sender.specs.Drawing.{next, leave, none-leaves, one-leaves, some, part}
+use Rattle.sender.specs.Drawing.{next, leave, none-leaves, one-leaves, present, part}
 use Rattle.sender.specs.Steps.{Parted}
 use Rattle.sender.proofs.Heads.{next-within}
 
 -- ---- the definition
 
-end-tells : (k P : ℕ) (q : List ℕ) (left : ℕ) → _≡_ {A = ℕ} (cond (some (leave (suc k) P q left)) 255 0) (cond (eqb (next P q left) 0) 0 255)
+end-tells : (k P : ℕ) (q : List ℕ) (left : ℕ) → _≡_ {A = ℕ} (cond (present (leave (suc k) P q left)) 255 0) (cond (eqb (next P q left) 0) 0 255)
 unfolding leave
 end-tells k P q left = by (take (next P q left) q) (leave k P (drop (next P q left) q) (left - (next P q left + 1))) (eqb (next P q left) 0)
   where
-    by : (x : List ℕ) (xs : List (List ℕ)) (t : Bool) → _≡_ {A = ℕ} (cond (some (cond t [] (x ∷ xs))) 255 0) (cond t 0 255)
+    by : (x : List ℕ) (xs : List (List ℕ)) (t : Bool) → _≡_ {A = ℕ} (cond (present (cond t [] (x ∷ xs))) 255 0) (cond t 0 255)
     by x xs true = refl
     by x xs false = refl
 
@@ -138,7 +138,7 @@ module _ (P : ℕ) (b : List ℕ) (q : Ring) (d₀ d : List ℕ) (t : Ring) (at 
           let es = leave (suc k) P (held b t₁) (P + 3 - (at + n)) in
           let one : leave (suc (i .fuel)) P (held b t) (P + 4 - at) ≡ take n (held b t) ∷ es =
           one-leaves (i .fuel) P (held b t) (P + 4 - at) n (sym (i .next-is)) p ∙ ap (λ (z : ℕ). take n (held b t) ∷ leave z P (drop n (held b t)) (P + 4 - at - (n + 1))) fk ∙ rw (g₂, rest) refl in
-          let eb : cond (some es) 255 0 ≡ e = end-tells k P (held b t₁) (P + 3 - (at + n)) ∙ rw (← mn, ← en) refl in
+          let eb : cond (present es) 255 0 ≡ e = end-tells k P (held b t₁) (P + 3 - (at + n)) ∙ rw (← mn, ← en) refl in
           let o : List ℕ = i .out ++ take n (held b t) ++ (e ∷ []) in
           let tk : take (at + n + 1) (set d₁ (at + n) e) ≡ take 4 d₀ ++ o =
           rw (add-one, take-suc-set d₁ (at + n) e (omega arith), bytes-is, take-paste d at (held b t) n y x, i .written) (simp append-assoc) in
@@ -158,7 +158,7 @@ module _ (P : ℕ) (b : List ℕ) (q : Ring) (d₀ d : List ℕ) (t : Ring) (at 
             left = len-on ∙ ap (λ (z : ℕ). z - n) (i .left) ∙ sym (sub-add-eq (q .len) (i .gone) n);
             fuel = k;
             enough = omega arith;
-            part-is = rw g₁ (parts (i .out) (take n (held b t)) e (cond (some es) 255 0) (part es) eb ∙ ap (λ (z : List (List ℕ)). i .out ++ part z) (sym one) ∙ i .part-is);
+            part-is = rw g₁ (parts (i .out) (take n (held b t)) e (cond (present es) 255 0) (part es) eb ∙ ap (λ (z : List (List ℕ)). i .out ++ part z) (sym one) ∙ i .part-is);
             gone-is = rw g₁ (add-assoc (i .gone) n (length (flatten es)) ∙ ap (λ (z : ℕ). i .gone + z) (sym (length-append (take n (held b t)) (flatten es) ∙ ap (λ (z : ℕ). z + length (flatten es)) lt)) ∙ ap (λ (z : List (List ℕ)). i .gone + length (flatten z)) (sym one) ∙ i .gone-is);
           }
         where

@@ -61,14 +61,15 @@ pub one-leaves : (k P : ℕ) (q : List ℕ) (left n : ℕ) → next P q left ≡
 unfolding leave
 one-leaves k P q left n e p = rw (e, ne-eqb n 0 (λ z. omega arith))
 
-abbrev pub some : List (List ℕ) → Bool
-some [] = false
-some (e ∷ es) = true
+-- "low-latency part present", "another follows": there is at least one
+abbrev pub present : List (List ℕ) → Bool
+present [] = false
+present (e ∷ es) = true
 
 -- each LLEP followed by its end byte, FF if another follows, else 00
 unfoldable pub part : List (List ℕ) → List ℕ
 part [] = []
-part (e ∷ es) = e ++ cond (some es) 0xFF 0x00 ∷ part es
+part (e ∷ es) = e ++ cond (present es) 0xFF 0x00 ∷ part es
 
 -- ---- then owed fill bytes, then queued ordinary bytes, then fill
 
@@ -95,12 +96,12 @@ owedAfter r owed q = owed - r + (length (fill (lacking r owed q)) - lacking r ow
 unfoldable pub span : List ℕ → ℕ
 span q = min (6 + sizeIn (headAt q)) (length q)
 
--- of the EP under way rest bytes are at the head of the queue; so many once n bytes more are drawn
-unfoldable pub under : ℕ → List ℕ → ℕ → ℕ
-under zero q rest = rest
-under (suc n) [] rest = rest
-under (suc n) (b ∷ q) zero = under n q (span (b ∷ q) - 1)
-under (suc n) (b ∷ q) (suc rest) = under n q rest
+-- the queue begins with the last rest bytes of an EP that is partly drawn; with so many once n bytes more are drawn
+unfoldable pub restAfter : ℕ → List ℕ → ℕ → ℕ
+restAfter zero q rest = rest
+restAfter (suc n) [] rest = rest
+restAfter (suc n) (b ∷ q) zero = restAfter n q (span (b ∷ q) - 1)
+restAfter (suc n) (b ∷ q) (suc rest) = restAfter n q rest
 
 -- first ordinary bytes stand before it, of r; counted from the first payload byte, low-latency part included; 2047 if none begins
 unfoldable pub offset : ℕ → ℕ → ℕ → ℕ
@@ -119,11 +120,11 @@ unfoldable pub drawWith : ℕ → ℕ → List (List ℕ) → List ℕ → ℕ �
 drawWith P str es q owed rest =
     let r = P - length (part es) in
     record {
-      tp = tpHeader str (some es) (offset (length (part es)) (owed + rest) r) ++ (part es ++ take r (stream r owed q));
+      tp = tpHeader str (present es) (offset (length (part es)) (owed + rest) r) ++ (part es ++ take r (stream r owed q));
       lowGone = length (flatten es);
       gone = min (r - owed) (length q);
       owed = owedAfter r owed q;
-      rest = under (min (r - owed) (length q)) q rest;
+      rest = restAfter (min (r - owed) (length q)) q rest;
     }
 
 unfoldable pub drawOf : ℕ → ℕ → List ℕ → List ℕ → ℕ → ℕ → Draw

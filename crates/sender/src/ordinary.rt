@@ -4,7 +4,7 @@ ghost use mathlib.Core.List.{_++_};
 ghost use Prim.Native.Nat.{_+_, _-_, _≤_};
 ghost use lib.ListN.{length, take};
 ghost use Rattle.queue.specs.Ring.{held, Kept};
-ghost use Rattle.sender.specs.Drawing.{fill, under, offset};
+ghost use Rattle.sender.specs.Drawing.{fill, restAfter, offset};
 ghost use Rattle.sender.specs.Steps.{Filled};
 use crate::reading::least;
 use crate::reading::span_at;
@@ -14,7 +14,7 @@ use queue::Ring;
 pub fn rest_after(buf: &[u8], q: Ring, rest: usize, n: usize) -> usize
     requires { ⌜ Kept (now buf) q ⌝ }
     requires { ⌜ (rest ≤ q .len) × (n ≤ q .len) × (q .len ≤ 1048576) ⌝ }
-    ensures { λ r. ⌜ (r ≡ under n (held (now (buf .entry)) q) rest) × (r ≤ q .len - n) ⌝ }
+    ensures { λ r. ⌜ (r ≡ restAfter n (held (now (buf .entry)) q) rest) × (r ≤ q .len - n) ⌝ }
 {
     let mut at = rest;
     while at < n {

@@ -5,14 +5,14 @@ use native.Mathlib.Omega.{arith}
 use lib.ListN.{drop, length-drop}
 use Rattle.queue.specs.Ring.{held}
 use Rattle.queue.proofs.Puts.{length-held}
-use Rattle.sender.specs.Drawing.{under}
+use Rattle.sender.specs.Drawing.{restAfter}
 use Rattle.sender.proofs.Heads.{span-within, span-some}
-use Rattle.sender.proofs.Under.{run, turn, over}
+use Rattle.sender.proofs.RestAfter.{run, turn, over}
 use Rattle.sender.proofs.ordinary.rest_after.Statement.{statement}
 use Rattle.sender.proofs.ordinary.rest_after.Tie as tie
 
 abbrev Inv-loop : tie.InvT-loop
-Inv-loop buf q rest n at₀ at = (at ≤ q .len) × (under n (held buf q) rest ≡ under (n - at) (drop at (held buf q)) (at - n))
+Inv-loop buf q rest n at₀ at = (at ≤ q .len) × (restAfter n (held buf q) rest ≡ restAfter (n - at) (drop at (held buf q)) (at - n))
 
 abbrev μ-loop : tie.MeasureT-loop
 μ-loop buf q rest n at₀ at = n - at
