@@ -6,9 +6,9 @@ ghost use lib.ListN.{length, take};
 ghost use Rattle.queue.specs.Ring.{held, Kept};
 ghost use Rattle.sender.specs.Drawing.{fill, restAfter, offset};
 ghost use Rattle.sender.specs.Steps.{Filled};
-use crate::reading::least;
 use crate::reading::span_at;
 use queue::Ring;
+use queue::least;
 
 // How many bytes of the EP under way are left once n bytes more are drawn.
 pub fn rest_after(buf: &[u8], q: Ring, rest: usize, n: usize) -> usize

@@ -1,10 +1,11 @@
 // Headers read from queued bytes, without repair.
 ghost use mathlib.Core.Path.{_≡_};
-ghost use Prim.Native.Nat.{_+_, _≤_, _<_, min};
+ghost use Prim.Native.Nat.{_+_, _≤_, _<_};
 ghost use lib.ListN.{drop};
 ghost use Rattle.queue.specs.Ring.{held, Kept};
 ghost use Rattle.sender.specs.Drawing.{headAt, sizeIn, contentIn, lowIn, lowAt, overwritten, span};
 use queue::Ring;
+use queue::least;
 
 // The header at place i of what the ring holds.
 fn head_at(buf: &[u8], q: Ring, i: usize) -> u64
@@ -71,15 +72,6 @@ pub fn is_overwritten(payload: usize, buf: &[u8], q: Ring) -> bool
         return false;
     }
     low_at(payload, buf, q) == 0
-}
-
-pub fn least(a: usize, b: usize) -> usize
-    ensures { λ r. ⌜ r ≡ min a b ⌝ }
-{
-    if a < b {
-        return a;
-    }
-    b
 }
 
 // The length in the header at place i of what the ring holds. Only the three bytes that have it are read.

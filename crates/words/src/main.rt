@@ -1,8 +1,6 @@
 // Only tests need this crate.
 // Runs the Golay code over sections of words from standard input, and prints a line for each: second/words.h.
 // The file stdout beside src/ is what the second program prints.
-ghost use Prim.Native.Nat.{_<_};
-
 mod answers;
 
 // No input has so many sections: the loop ends for this.
@@ -36,12 +34,6 @@ fn print_line(what: u8, count: usize, words: &[u8]) {
     io::write_all(1, b"\n");
 }
 
-fn count_of(high: u8, low: u8) -> usize
-    ensures { λ r. ⌜ r < 65536 ⌝ }
-{
-    high as usize * 256 + low as usize
-}
-
 // One section; answers whether another may follow.
 fn section(buf: &mut [u8]) -> bool {
     let mut head = [0u8; 3];
@@ -52,11 +44,11 @@ fn section(buf: &mut [u8]) -> bool {
     if 4 < what {
         return false;
     }
-    let count = count_of(head[1], head[2]);
-    let n = 3 * count;
-    if buf.len() < n {
+    let count = digits::from_two(head[1], head[2]);
+    if buf.len() / 3 < count {
         return false;
     }
+    let n = 3 * count;
     if io::read_full(0, &mut buf[0..n]) < n {
         return false;
     }
