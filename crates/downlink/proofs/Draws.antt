@@ -191,8 +191,8 @@ module _ (P str F ls os : ℕ) (top : P ≤ 2047) (piece₁ : 1 ≤ F) (piece₂
       }
 
   made : (let x = took (W .sender) drawn in
-      Steps P str F ls os top piece₁ piece₂ (record { sender = N.kept (W .sender) (x .answer); low = lb; ordinary = ob })
-      (N.unless (x .answer) (drew (record { bytes = x .buffer; lleps = leaving W; fill = filling W }))) lows pend)
+      Steps P str F ls os top piece₁ piece₂ (record { sender = N.kept (W .sender) (x .given); low = lb; ordinary = ob })
+      (N.unless (x .given) (drew (record { bytes = x .buffer; lleps = leaving W; fill = filling W }))) lows pend)
   unfolding drawn l′ o′
   made = after
 
@@ -206,7 +206,7 @@ module _ (P str F ls os : ℕ) (top : P ≤ 2047) (piece₁ : 1 ≤ F) (piece₂
     where
       go : (t : Bool)
           → (let x = cond (not t) (A.refused 5 b) (took (W .sender) drawn) in
-          Steps P str F ls os top piece₁ piece₂ (record { sender = N.kept (W .sender) (x .answer); low = lb; ordinary = ob })
-          (N.unless (x .answer) (drew (record { bytes = x .buffer; lleps = leaving W; fill = filling W }))) lows pend)
+          Steps P str F ls os top piece₁ piece₂ (record { sender = N.kept (W .sender) (x .given); low = lb; ordinary = ob })
+          (N.unless (x .given) (drew (record { bytes = x .buffer; lleps = leaving W; fill = filling W }))) lows pend)
       go true = made
       go false = unchanged P str F ls os top piece₁ piece₂ W lows pend (hold P str F ls os top piece₁ piece₂ lows pend l o ow re lb ob oc qc f)

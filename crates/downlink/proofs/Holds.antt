@@ -171,7 +171,7 @@ module _ (P str F ls os : ℕ) (top : P ≤ 2047) (piece₁ : 1 ≤ F) (piece₂
 
     low-go : (c : ℕ) (d : List ℕ) (t₁ t₂ t₃ : Bool) → known c ≡ t₁ → ltb P (7 + length d) ≡ t₂ → ltb (ls - l .len) (length (ep c 0 d)) ≡ t₃
         → (let x = putLow (W .sender) lb (cond (not t₁) (no 2) (cond t₂ (no 3) (cond t₃ (no 4) (put (ep c 0 d))))) in
-        Steps (record { sender = N.kept (W .sender) (x .answer); low = x .buffer; ordinary = ob }) (N.unless (x .answer) (tookLow c d)) lows pend)
+        Steps (record { sender = N.kept (W .sender) (x .given); low = x .buffer; ordinary = ob }) (N.unless (x .given) (tookLow c d)) lows pend)
     low-go c d false t₂ t₃ e₁ e₂ e₃ = unchanged W lows pend here
     low-go c d true true t₃ e₁ e₂ e₃ = unchanged W lows pend here
     low-go c d true false true e₁ e₂ e₃ = unchanged W lows pend here
@@ -227,7 +227,7 @@ module _ (P str F ls os : ℕ) (top : P ≤ 2047) (piece₁ : 1 ≤ F) (piece₂
 
     ordinary-go : (c : ℕ) (d : List ℕ) (t₁ t₂ t₃ : Bool) → known c ≡ t₁ → ltb 131072 (length d) ≡ t₂ → ltb (os - o .len) (length (spBytes F c d)) ≡ t₃
         → (let x = putOrdinary (W .sender) ob (cond (not t₁) (no 2) (cond t₂ (no 3) (cond t₃ (no 4) (put (spBytes F c d))))) in
-        Steps (record { sender = N.kept (W .sender) (x .answer); low = lb; ordinary = x .buffer }) (N.unless (x .answer) (took c d)) lows pend)
+        Steps (record { sender = N.kept (W .sender) (x .given); low = lb; ordinary = x .buffer }) (N.unless (x .given) (took c d)) lows pend)
     ordinary-go c d false t₂ t₃ e₁ e₂ e₃ = unchanged W lows pend here
     ordinary-go c d true true t₃ e₁ e₂ e₃ = unchanged W lows pend here
     ordinary-go c d true false true e₁ e₂ e₃ = unchanged W lows pend here

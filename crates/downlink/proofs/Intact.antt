@@ -13,7 +13,7 @@ use Rattle.digits.specs.Digits.{number}
 use Rattle.golay.specs.Golay.{weight, distance, byteDistance}
 use Rattle.wire.specs.Wire.{word, firstNumber, ep, offsetNumber, tpHeader}
 use Rattle.wire.proofs.Laws.{word-length, ep-length, tp-header-length}
-use Rattle.sender.specs.declared.Answer.the-variants.{Done}
+use Rattle.sender.specs.Answers.{done}
 use Rattle.sender.specs.Opening.{opened}
 use Rattle.sender.specs.Drawing.{present, part, offset}
 use Rattle.receiver.specs.Low.{wire}
@@ -140,7 +140,7 @@ module _ (P str F : ℕ) (top : P ≤ 2047) where
     items-sent (i ∷ is) ok = sent-append (eps i) (allEps is) (item-sent i (ok .0)) (items-sent is (ok .1))
 
 -- NO DAMAGE is within the limits, whatever the calls
-pub undamaged : (size stream F : ℕ) (w : World) → opened size stream F (length (w .low)) (length (w .ordinary)) ≡ Done (w .sender)
+pub undamaged : (size stream F : ℕ) (w : World) → opened size stream F (length (w .low)) (length (w .ordinary)) ≡ done (w .sender)
     → (cs : List Call) → Damaged (tps (deeds w cs)) (allEps (items F (deeds w cs))) (undrawn (left w cs)) (drawn (tps (deeds w cs)))
 undamaged size stream F w is-open cs =
     let lim = limits size stream F (w .low) (w .ordinary) (w .sender) is-open in

@@ -11,7 +11,7 @@ use borrow.Author.Tests.{eq-eqb}
 use Rattle.queue.specs.Ring.{held}
 use Rattle.wire.specs.Wire.{tpHeader}
 use Rattle.wire.proofs.Laws.{tp-header-length}
-use Rattle.sender.specs.declared.Answer.the-variants.{Done}
+use Rattle.sender.specs.Answers.{done}
 use Rattle.sender.specs.Opening.{opened}
 use Rattle.sender.specs.Drawing as D
 use Rattle.sender.specs.Drawing.{overwritten, leave, present, part, offset}
@@ -98,7 +98,7 @@ module _ (P str F : ℕ) (top : P ≤ 2047) where
       ap₂ (λ (a b : List (List ℕ)). a ++ b) (are .0 .lleps-are) (gone-all ts ls (are .1)) ∙ sym (lleps-append (l .now) (nows ls))
 
 -- any calls on a sender that was opened
-module _ (size str F : ℕ) (w : World) (e : opened size str F (length (w .low)) (length (w .ordinary)) ≡ Done (w .sender)) (cs : List Call) where
+module _ (size str F : ℕ) (w : World) (e : opened size str F (length (w .low)) (length (w .ordinary)) ≡ done (w .sender)) (cs : List Call) where
   lim : (16 ≤ size) × (size ≤ 2051) × (str ≤ 15) × (1 ≤ F) × (F ≤ 65535)
   lim = limits size str F (w .low) (w .ordinary) (w .sender) e
 

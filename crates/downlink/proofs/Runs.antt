@@ -10,9 +10,8 @@ use lib.ListN.{length}
 use borrow.Author.Tests.{leb-true}
 use Rattle.queue.specs.declared.Ring.{Ring}
 use Rattle.queue.specs.Ring.{held}
-use Rattle.sender.specs.declared.Refusal.{Refusal}
 use Rattle.sender.specs.declared.Sender.{Sender}
-use Rattle.sender.specs.declared.Answer.the-variants.{Done, Refused}
+use Rattle.sender.specs.Answers.{done, refusal}
 use Rattle.sender.specs.Offering.{wantOrdinary, ordinaryOffered, wantLow, lowOffered}
 use Rattle.sender.specs.Drawing as D
 use Rattle.sender.specs.Opening.{allowed, small, empty, fresh, opened}
@@ -122,8 +121,8 @@ nothing-held : (b : List ℕ) → held b empty ≡ []
 unfolding held
 nothing-held b = refl
 
-module _ (size str F : ℕ) (lb ob : List ℕ) (s : Sender) (e : opened size str F (length lb) (length ob) ≡ Done s) where
-  is-fresh : (t : Bool) (k : Refusal) → cond t (Done (fresh size str F (length lb) (length ob))) (Refused k) ≡ Done s → (t ≡ true) × (s ≡ fresh size str F (length lb) (length ob))
+module _ (size str F : ℕ) (lb ob : List ℕ) (s : Sender) (e : opened size str F (length lb) (length ob) ≡ done s) where
+  is-fresh : (t : Bool) (k : ℕ) → cond t (done (fresh size str F (length lb) (length ob))) (refusal k) ≡ done s → (t ≡ true) × (s ≡ fresh size str F (length lb) (length ob))
   is-fresh true k e = (refl, cc)
   is-fresh false k e = (cc, cc)
 

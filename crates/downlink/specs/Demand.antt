@@ -5,7 +5,7 @@ use mathlib.Core.List.{List, [], _∷_, map}
 use Prim.Native.Nat.{ℕ, _+_, _≤_}
 use lib.Dec.{leb}
 use lib.ListN.{length, take, drop}
-use Rattle.sender.specs.declared.Answer.the-variants.{Done}
+use Rattle.sender.specs.Answers.{done}
 use Rattle.sender.specs.Opening.{opened}
 use Rattle.receiver.specs.declared.Opened.the-variants.{Ready}
 use Rattle.receiver.specs.Call.{OpenedAs}
@@ -51,7 +51,7 @@ pub record Link : Type 0 where
   pub listener : Listener
   pub calls : List Call
   pub got : List (List ℕ)
-  pub sends : opened size stream piece (length (world .low)) (length (world .ordinary)) ≡ Done (world .sender)
+  pub sends : opened size stream piece (length (world .low)) (length (world .ordinary)) ≡ done (world .sender)
   pub listens : OpenedAs size stream (length (listener .room)) (Ready (listener .receiver))
   pub damaged : Damaged (tps (deeds world calls)) (allEps (items piece (deeds world calls))) (undrawn (left world calls)) got
 

@@ -17,8 +17,7 @@ use Rattle.queue.proofs.Takes.{wrapped}
 use Rattle.wire.specs.Wire.{tpHeader}
 use Rattle.wire.proofs.Laws.{tp-header-length}
 use Rattle.sender.specs.declared.Sender.{Sender}
-use Rattle.sender.specs.declared.Answer.the-variants.{Done}
-use Rattle.sender.specs.Answers.{Left, refused, lent}
+use Rattle.sender.specs.Answers.{done, Left, refused, lent}
 use Rattle.sender.specs.Opening.{Sound}
 use Rattle.sender.specs.Drawing.{leave, present, part, stream, owedAfter, restAfter, offset, drawWith, drawOf, took, drawBy, overwritten, drew}
 use Rattle.sender.specs.Steps.{Parted, Filled}
@@ -67,7 +66,7 @@ module _ (s : Sender) (w : Sound s) (low own d d₁ d₂ : List ℕ) (t u : Ring
 
   pub finished : (first : Bool) (off′ rest : ℕ) (h d₃ : List ℕ) → off′ ≡ offset (at - 4) (s .owed + s .rest) (s .setting .payload + 4 - at)
       → first ≡ ltb 4 at → h ≡ tpHeader (s .setting .stream) first off′ → d₃ ≡ copied d₂ 0 h → rest ≡ restAfter n (held own (s .ordinary)) (s .rest)
-      → record { answer = Done (record { setting = s .setting; low = t; ordinary = u; owed = ow; rest = rest }); buffer = d₃ } ≡ took s (drawBy s low own)
+      → record { given = done (record { setting = s .setting; low = t; ordinary = u; owed = ow; rest = rest }); buffer = d₃ } ≡ took s (drawBy s low own)
   unfolding drawBy drawOf drawWith
   finished first off′ rest h d₃ en ef eh c₃ er =
       let P : ℕ = s .setting .payload in

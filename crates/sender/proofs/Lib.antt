@@ -1,3 +1,4 @@
+pub mod Answered
 pub mod Bools
 pub mod Opens
 pub mod Puts

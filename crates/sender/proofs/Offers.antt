@@ -18,8 +18,7 @@ use Rattle.sender.specs.declared.Refusal.{Refusal}
 use Rattle.sender.specs.declared.Refusal.the-variants.{Content, Long, Full}
 use Rattle.sender.specs.declared.checks.Check.{Check}
 use Rattle.sender.specs.declared.checks.Check.the-variants.{Fine, No}
-use Rattle.sender.specs.declared.Answer.the-variants.{Done, Refused}
-use Rattle.sender.specs.Answers.{refusal, refused, lent}
+use Rattle.sender.specs.Answers.{number, done, refusal, refused, lent}
 use Rattle.sender.specs.Opening.{Sound}
 use Rattle.sender.specs.Offering.{no, put, spBytes, known, wantOrdinary, wantLow, putOrdinary, putLow, ordinaryOffered, lowOffered}
 use Rattle.sender.specs.Steps.{checked, firstOf, judgedOf, withOrdinary, withLow, Put}
@@ -36,20 +35,20 @@ lent-ordinary g l o e = eqb-true o (g .space) (and-right (eqb l (g .lowspace)) (
 
 -- ---- the three checks
 
-refusal-in : Check → Refusal
-refusal-in Fine = Full
-refusal-in (No k) = k
+number-in : Check → ℕ
+number-in Fine = 0
+number-in (No k) = number k
 
 is-no : Check → ℕ
 is-no Fine = 0
 is-no (No k) = 1
 
 told : (t₁ t₂ t₃ : Bool) (e : List ℕ) (k : Refusal) → firstOf (checked (not t₁) Content) (firstOf (checked t₂ Long) (checked t₃ Full)) ≡ No k
-    → (n : ℕ) × ((k ≡ refusal n) × (no n ≡ cond (not t₁) (no 2) (cond t₂ (no 3) (cond t₃ (no 4) (put e)))))
-unfolding refusal-in is-no
-told false t₂ t₃ e k j = (2, (sym (ap refusal-in j), refl))
-told true true t₃ e k j = (3, (sym (ap refusal-in j), refl))
-told true false true e k j = (4, (sym (ap refusal-in j), refl))
+    → no (number k) ≡ cond (not t₁) (no 2) (cond t₂ (no 3) (cond t₃ (no 4) (put e)))
+unfolding number-in is-no
+told false t₂ t₃ e k j = ap no (sym (ap number-in j))
+told true true t₃ e k j = ap no (sym (ap number-in j))
+told true false true e k j = ap no (sym (ap number-in j))
 told true false false e k j = absurd (omega (arith, ap is-no j))
 
 fine : (t₁ t₂ t₃ : Bool) → firstOf (checked (not t₁) Content) (firstOf (checked t₂ Long) (checked t₃ Full)) ≡ Fine → (t₁ ≡ true) × ((t₂ ≡ false) × (t₃ ≡ false))
@@ -77,19 +76,19 @@ module _ (s : Sender) (low ordinary : List ℕ) (c : ℕ) (d : List ℕ) where
 
   module _ (e : lent g (length low) (length ordinary) ≡ true) where
     pub ordinary-no : (k : Refusal) → judgedOf c d 131072 (g .piece) (g .space - s .ordinary .len) ≡ No k
-        → record { answer = Refused k; buffer = ordinary } ≡ ordinaryOffered s low ordinary c d
+        → record { given = refusal (number k); buffer = ordinary } ≡ ordinaryOffered s low ordinary c d
     unfolding judgedOf ordinaryOffered wantOrdinary
     ordinary-no k j =
         let t = told (known c) (ltb 131072 (length d)) (ltb (g .space - s .ordinary .len) (length (spBytes (g .piece) c d))) (spBytes (g .piece) c d) k j in
-        rw e (ap (λ (x : Refusal). record { answer = Refused x; buffer = ordinary }) (t .1 .0) ∙ ap (putOrdinary s ordinary) (t .1 .1))
+        rw e (ap (putOrdinary s ordinary) t)
 
     pub ordinary-put : (b′ : List ℕ) (t : Ring) (r : Sender) → r ≡ withOrdinary s t → known c ≡ true → length d ≤ 131072 → length (spBytes (g .piece) c d) ≤ g .space - s .ordinary .len
         → record { ring = t; bytes = b′ } ≡ Put ordinary (s .ordinary) (spBytes (g .piece) c d)
-        → record { answer = Done r; buffer = b′ } ≡ ordinaryOffered s low ordinary c d
+        → record { given = done r; buffer = b′ } ≡ ordinaryOffered s low ordinary c d
     unfolding ordinaryOffered wantOrdinary
     ordinary-put b′ t r f k l m u =
         rw (f, e, k, le-ltb 131072 (length d) l, le-ltb (g .space - s .ordinary .len) (length (spBytes (g .piece) c d)) m)
-        (ap (λ (x : R.Left). record { answer = Done (withOrdinary s (x .ring)); buffer = x .bytes }) u)
+        (ap (λ (x : R.Left). record { given = done (withOrdinary s (x .ring)); buffer = x .bytes }) u)
 
   pub ordinary-sound : (b′ : List ℕ) (t : Ring) → Sound s → length (spBytes (g .piece) c d) ≤ g .space - s .ordinary .len
       → record { ring = t; bytes = b′ } ≡ Put ordinary (s .ordinary) (spBytes (g .piece) c d)
@@ -126,14 +125,14 @@ module _ (s : Sender) (low ordinary : List ℕ) (c : ℕ) (d : List ℕ) where
     -- by the tests of the definition
     low-told : (t₂ t₃ : Bool) (k : Refusal) → ltb (g .payload) (7 + length d) ≡ t₂ → cond t₂ (no 3) (cond (ltb (g .lowspace - s .low .len) (length (ep c 0 d))) (no 4) (put (ep c 0 d))) ≡ cond t₂ (no 3) (cond t₃ (no 4) (put (ep c 0 d)))
         → firstOf (checked (not (known c)) Content) (firstOf (checked t₂ Long) (checked t₃ Full)) ≡ No k
-        → record { answer = Refused k; buffer = low } ≡ lowOffered s low ordinary c d
+        → record { given = refusal (number k); buffer = low } ≡ lowOffered s low ordinary c d
     unfolding lowOffered wantLow
     low-told t₂ t₃ k f₂ f₃ j =
         let t = told (known c) t₂ t₃ (ep c 0 d) k j in
-        rw (e, f₂, f₃) (ap (λ (x : Refusal). record { answer = Refused x; buffer = low }) (t .1 .0) ∙ ap (putLow s low) (t .1 .1))
+        rw (e, f₂, f₃) (ap (putLow s low) t)
 
     pub low-no : (k : Refusal) → 7 ≤ g .payload → g .payload ≤ 2047 → judgedOf c d (g .payload - 7) 65535 (g .lowspace - s .low .len) ≡ No k
-        → record { answer = Refused k; buffer = low } ≡ lowOffered s low ordinary c d
+        → record { given = refusal (number k); buffer = low } ≡ lowOffered s low ordinary c d
     unfolding judgedOf
     low-no k p q j =
         ⊎-elim
@@ -143,12 +142,12 @@ module _ (s : Sender) (low ordinary : List ℕ) (c : ℕ) (d : List ℕ) where
         (split (length d) (g .payload - 7))
 
     pub low-put : (b′ : List ℕ) (t : Ring) (r : Sender) → r ≡ withLow s t → known c ≡ true → 7 + length d ≤ g .payload → 6 + length d ≤ g .lowspace - s .low .len
-        → record { ring = t; bytes = b′ } ≡ Put low (s .low) (ep c 0 d) → record { answer = Done r; buffer = b′ } ≡ lowOffered s low ordinary c d
+        → record { ring = t; bytes = b′ } ≡ Put low (s .low) (ep c 0 d) → record { given = done r; buffer = b′ } ≡ lowOffered s low ordinary c d
     unfolding lowOffered wantLow
     low-put b′ t r f k l m u =
         let n : length (ep c 0 d) ≤ g .lowspace - s .low .len = omega (arith, ep-length c 0 d) in
         rw (f, e, k, le-ltb (g .payload) (7 + length d) l, le-ltb (g .lowspace - s .low .len) (length (ep c 0 d)) n)
-        (ap (λ (x : R.Left). record { answer = Done (withLow s (x .ring)); buffer = x .bytes }) u)
+        (ap (λ (x : R.Left). record { given = done (withLow s (x .ring)); buffer = x .bytes }) u)
 
   pub low-sound : (b′ : List ℕ) (t : Ring) → Sound s → 6 + length d ≤ g .lowspace - s .low .len → record { ring = t; bytes = b′ } ≡ Put low (s .low) (ep c 0 d)
       → Sound (withLow s t)

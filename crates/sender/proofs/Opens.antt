@@ -5,8 +5,7 @@ use Prim.Native.Nat.{ℕ, _≤_, _<_}
 use native.Mathlib.Omega.{arith}
 use lib.Dec.{leb}
 use borrow.Author.Tests.{le-leb, lt-leb, leb-true}
-use Rattle.sender.specs.declared.Refusal.the-variants.{Limits}
-use Rattle.sender.specs.declared.Answer.the-variants.{Done, Refused}
+use Rattle.sender.specs.Answers.{done, refusal}
 use Rattle.sender.specs.Opening.{Sound, allowed, small, fresh, opened}
 use Rattle.sender.proofs.Bools.{and-left, and-right}
 
@@ -32,21 +31,21 @@ limits tp stream F e =
     }
 
 module _ (tp stream F low ordinary : ℕ) where
-  pub open-not : allowed tp stream F ≡ false → Refused Limits ≡ opened tp stream F low ordinary
+  pub open-not : allowed tp stream F ≡ false → refusal 1 ≡ opened tp stream F low ordinary
   unfolding opened
   open-not e = rw e
 
   module _ (e : allowed tp stream F ≡ true) where
-    pub open-low : 1048576 < low → Refused Limits ≡ opened tp stream F low ordinary
+    pub open-low : 1048576 < low → refusal 1 ≡ opened tp stream F low ordinary
     unfolding opened small
     open-low h = rw (e, lt-leb low 1048576 h)
 
     module _ (g : low ≤ 1048576) where
-      pub open-ordinary : 1048576 < ordinary → Refused Limits ≡ opened tp stream F low ordinary
+      pub open-ordinary : 1048576 < ordinary → refusal 1 ≡ opened tp stream F low ordinary
       unfolding opened small
       open-ordinary h = rw (e, le-leb low 1048576 g, lt-leb ordinary 1048576 h)
 
-      pub open-done : ordinary ≤ 1048576 → Done (fresh tp stream F low ordinary) ≡ opened tp stream F low ordinary
+      pub open-done : ordinary ≤ 1048576 → done (fresh tp stream F low ordinary) ≡ opened tp stream F low ordinary
       unfolding opened small
       open-done h = rw (e, le-leb low 1048576 g, le-leb ordinary 1048576 h)
 

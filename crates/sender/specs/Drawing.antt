@@ -12,8 +12,7 @@ use Rattle.digits.specs.Digits.{number}
 use Rattle.queue.specs.Ring.{held, off}
 use Rattle.wire.specs.Wire.{header, ep, tpHeader}
 use Rattle.sender.specs.declared.Sender.{Sender}
-use Rattle.sender.specs.declared.Answer.the-variants.{Done}
-use Rattle.sender.specs.Answers.{Left, refused, lent}
+use Rattle.sender.specs.Answers.{done, Left, refused, lent}
 use Rattle.sender.specs.Offering.{known}
 
 -- ---- the header at the head of queued bytes, as a number; its length and content by the number halves of its words
@@ -135,7 +134,7 @@ drawOf P str low q owed rest = drawWith P str (leave (suc P) P low P) q owed res
 abbrev pub took : Sender → Draw → Left
 took s d =
     record {
-      answer = Done (record {
+      given = done (record {
         setting = s .setting;
         low = off (s .setting .lowspace) (s .low) (d .lowGone);
         ordinary = off (s .setting .space) (s .ordinary) (d .gone);

@@ -10,8 +10,7 @@ use borrow.Author.Tests.{le-leb, lt-leb}
 use Rattle.queue.specs.Ring.{longer, written}
 use Rattle.wire.specs.Wire.{ep}
 use Rattle.sender.specs.declared.Sender.{Sender}
-use Rattle.sender.specs.declared.Answer.the-variants.{Done}
-use Rattle.sender.specs.Answers.{Left, refused, lent}
+use Rattle.sender.specs.Answers.{done, Left, refused, lent}
 
 -- ---- the EPs of an SP
 
@@ -71,7 +70,7 @@ abbrev pub putOrdinary : Sender → List ℕ → Want → Left
 putOrdinary s b (no k) = refused k b
 putOrdinary s b (put e) =
     record {
-      answer = Done (record { setting = s .setting; low = s .low; ordinary = longer (s .ordinary) (length e); owed = s .owed; rest = s .rest });
+      given = done (record { setting = s .setting; low = s .low; ordinary = longer (s .ordinary) (length e); owed = s .owed; rest = s .rest });
       buffer = written b (s .ordinary) e;
     }
 
@@ -82,7 +81,7 @@ abbrev pub putLow : Sender → List ℕ → Want → Left
 putLow s b (no k) = refused k b
 putLow s b (put e) =
     record {
-      answer = Done (record { setting = s .setting; low = longer (s .low) (length e); ordinary = s .ordinary; owed = s .owed; rest = s .rest });
+      given = done (record { setting = s .setting; low = longer (s .low) (length e); ordinary = s .ordinary; owed = s .owed; rest = s .rest });
       buffer = written b (s .low) e;
     }
 

@@ -7,7 +7,7 @@ use Rattle.queue.specs.declared.Ring.{Ring}
 use Rattle.sender.specs.declared.Sender.{Sender}
 use Rattle.sender.specs.declared.Answer.{Answer}
 use Rattle.sender.specs.declared.Answer.the-variants.{Done, Refused}
-use Rattle.sender.specs.Answers.{refusal}
+use Rattle.sender.specs.Answers.{Given, done, refusal}
 
 -- TP length 16 to 2,051, stream 0 to 15, fragment size F of 1 to 65,535
 unfoldable pub allowed : ℕ → ℕ → ℕ → Bool
@@ -31,9 +31,9 @@ fresh tp stream F low ordinary =
     }
 
 -- 1: a setting or buffer outside its limits at opening; nothing opened
-unfoldable pub opened : ℕ → ℕ → ℕ → ℕ → ℕ → Answer
+unfoldable pub opened : ℕ → ℕ → ℕ → ℕ → ℕ → Given
 opened tp stream F low ordinary =
-    cond (allowed tp stream F && small low ordinary) (Done (fresh tp stream F low ordinary)) (Refused (refusal 1))
+    cond (allowed tp stream F && small low ordinary) (done (fresh tp stream F low ordinary)) (refusal 1)
 
 -- P is 12 to 2,047, the stream 0 to 15; the queued bytes lie in their buffers; at most 5 fill bytes are owed;
 -- the EP under way is queued as far as it is not drawn

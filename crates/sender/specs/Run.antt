@@ -7,9 +7,7 @@ use Prim.Native.Nat.{ℕ, suc, _-_}
 use lib.ListN.{length, replicate}
 use Rattle.queue.specs.Ring.{held}
 use Rattle.sender.specs.declared.Sender.{Sender}
-use Rattle.sender.specs.declared.Answer.{Answer}
-use Rattle.sender.specs.declared.Answer.the-variants.{Done, Refused}
-use Rattle.sender.specs.Answers.{lent}
+use Rattle.sender.specs.Answers.{Given, done, refusal, lent}
 use Rattle.sender.specs.Offering.{ordinaryOffered, lowOffered}
 use Rattle.sender.specs.Drawing as D
 use Rattle.sender.specs.Drawing.{leave, part, lacking}
@@ -48,9 +46,9 @@ filling w =
     D.fill (lacking (w .sender .setting .payload - length (part (leaving w))) (w .sender .owed) (held (w .ordinary) (w .sender .ordinary)))
 
 -- a refusal leaves the sender unchanged
-abbrev pub kept : Sender → Answer → Sender
-kept s (Done t) = t
-kept s (Refused k) = s
+abbrev pub kept : Sender → Given → Sender
+kept s (done t) = t
+kept s (refusal k) = s
 
 -- the same sender, lent these buffers
 abbrev pub lentOthers : World → List ℕ → List ℕ → World
@@ -63,24 +61,24 @@ ownLengths w l o = lent (w .sender .setting) (length l) (length o)
 abbrev pub next : World → Call → World
 next w (ordinary c d) =
     let x = ordinaryOffered (w .sender) (w .low) (w .ordinary) c d in
-    record { sender = kept (w .sender) (x .answer); low = w .low; ordinary = x .buffer }
+    record { sender = kept (w .sender) (x .given); low = w .low; ordinary = x .buffer }
 next w (low c d) =
     let x = lowOffered (w .sender) (w .low) (w .ordinary) c d in
-    record { sender = kept (w .sender) (x .answer); low = x .buffer; ordinary = w .ordinary }
-next w (draw b) = record { sender = kept (w .sender) (D.drew (w .sender) (w .low) (w .ordinary) b .answer); low = w .low; ordinary = w .ordinary }
+    record { sender = kept (w .sender) (x .given); low = x .buffer; ordinary = w .ordinary }
+next w (draw b) = record { sender = kept (w .sender) (D.drew (w .sender) (w .low) (w .ordinary) b .given); low = w .low; ordinary = w .ordinary }
 next w (lending l o c) =
     cond (ownLengths w l o) (next w c) (record { sender = next (lentOthers w l o) c .sender; low = w .low; ordinary = w .ordinary })
 
-abbrev pub unless : Answer → Deed → Deed
-unless (Done s) d = d
-unless (Refused k) d = refused
+abbrev pub unless : Given → Deed → Deed
+unless (done s) d = d
+unless (refusal k) d = refused
 
 abbrev pub deed : World → Call → Deed
-deed w (ordinary c d) = unless (ordinaryOffered (w .sender) (w .low) (w .ordinary) c d .answer) (took c d)
-deed w (low c d) = unless (lowOffered (w .sender) (w .low) (w .ordinary) c d .answer) (tookLow c d)
+deed w (ordinary c d) = unless (ordinaryOffered (w .sender) (w .low) (w .ordinary) c d .given) (took c d)
+deed w (low c d) = unless (lowOffered (w .sender) (w .low) (w .ordinary) c d .given) (tookLow c d)
 deed w (draw b) =
     let x = D.drew (w .sender) (w .low) (w .ordinary) b in
-    unless (x .answer) (drew (record { bytes = x .buffer; lleps = leaving w; fill = filling w }))
+    unless (x .given) (drew (record { bytes = x .buffer; lleps = leaving w; fill = filling w }))
 deed w (lending l o c) = cond (ownLengths w l o) (deed w c) (deed (lentOthers w l o) c)
 
 abbrev pub deeds : World → List Call → List Deed

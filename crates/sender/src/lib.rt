@@ -2,8 +2,7 @@
 ghost use mathlib.Core.Path.{_≡_};
 ghost use Prim.Native.Nat.{_+_};
 ghost use lib.ListN.{length};
-ghost use Rattle.sender.specs.declared.Answer.the-variants.{Done};
-ghost use Rattle.sender.specs.Answers.{lent};
+ghost use Rattle.sender.specs.Answers.{givenBy, done, lent};
 ghost use Rattle.sender.specs.Opening.{opened, Sound, SoundAnswer};
 ghost use Rattle.sender.specs.Offering.{ordinaryOffered, lowOffered};
 ghost use Rattle.sender.specs.Drawing.{took, drawBy, drew};
@@ -52,7 +51,7 @@ pub enum Answer {
 
 // Opens a sender over two queue buffers, the low-latency one first.
 pub fn open(tp: usize, stream: u8, piece: usize, low: &[u8], ordinary: &[u8]) -> Answer
-    ensures { λ r. ⌜ r ≡ opened tp stream piece (length (now (low .entry))) (length (now (ordinary .entry))) ⌝ }
+    ensures { λ r. ⌜ givenBy r ≡ opened tp stream piece (length (now (low .entry))) (length (now (ordinary .entry))) ⌝ }
     ensures { λ r. ⌜ SoundAnswer r ⌝ }
 {
     if !checks::is_allowed(tp, stream, piece) {
@@ -122,7 +121,7 @@ fn with_low(s: Sender, q: Ring) -> Sender
 // Offers an ordinary packet: its EPs are queued, or the first refusal of 1 to 4 that holds is given.
 pub fn offer_ordinary(s: Sender, low: &[u8], ordinary: &mut [u8], content: u8, sp: &[u8]) -> Answer
     requires { ⌜ Sound s ⌝ }
-    ensures { λ r. ⌜ record { answer = r; buffer = now (ordinary .exit) } ≡ ordinaryOffered s (now (low .entry)) (now (ordinary .entry)) content (now (sp .entry)) ⌝ }
+    ensures { λ r. ⌜ record { given = givenBy r; buffer = now (ordinary .exit) } ≡ ordinaryOffered s (now (low .entry)) (now (ordinary .entry)) content (now (sp .entry)) ⌝ }
     ensures { λ r. ⌜ SoundAnswer r ⌝ }
 {
     let g = s.setting;
@@ -140,7 +139,7 @@ pub fn offer_ordinary(s: Sender, low: &[u8], ordinary: &mut [u8], content: u8, s
 // Offers a low-latency packet: one EP is queued, or the first refusal of 1 to 4 that holds is given.
 pub fn offer_low(s: Sender, low: &mut [u8], ordinary: &[u8], content: u8, sp: &[u8]) -> Answer
     requires { ⌜ Sound s ⌝ }
-    ensures { λ r. ⌜ record { answer = r; buffer = now (low .exit) } ≡ lowOffered s (now (low .entry)) (now (ordinary .entry)) content (now (sp .entry)) ⌝ }
+    ensures { λ r. ⌜ record { given = givenBy r; buffer = now (low .exit) } ≡ lowOffered s (now (low .entry)) (now (ordinary .entry)) content (now (sp .entry)) ⌝ }
     ensures { λ r. ⌜ SoundAnswer r ⌝ }
 {
     let g = s.setting;
@@ -161,7 +160,7 @@ pub fn offer_low(s: Sender, low: &mut [u8], ordinary: &[u8], content: u8, sp: &[
 fn filled(s: Sender, low: &[u8], ordinary: &[u8], tp: &mut [u8]) -> Sender
     requires { ⌜ Sound s ⌝ }
     requires { ⌜ (length (now low) ≡ s .setting .lowspace) × (length (now ordinary) ≡ s .setting .space) × (length (now tp) ≡ s .setting .payload + 4) ⌝ }
-    ensures { λ r. ⌜ record { answer = Done r; buffer = now (tp .exit) } ≡ took s (drawBy s (now (low .entry)) (now (ordinary .entry))) ⌝ }
+    ensures { λ r. ⌜ record { given = done r; buffer = now (tp .exit) } ≡ took s (drawBy s (now (low .entry)) (now (ordinary .entry))) ⌝ }
     ensures { λ r. ⌜ Sound r ⌝ }
 {
     let g = s.setting;
@@ -188,7 +187,7 @@ fn filled(s: Sender, low: &[u8], ordinary: &[u8], tp: &mut [u8]) -> Sender
 // Draws a TP. The queues are lent as they are, so that only the sender's rings move.
 pub fn draw(s: Sender, low: &[u8], ordinary: &[u8], tp: &mut [u8]) -> Answer
     requires { ⌜ Sound s ⌝ }
-    ensures { λ r. ⌜ record { answer = r; buffer = now (tp .exit) } ≡ drew s (now (low .entry)) (now (ordinary .entry)) (now (tp .entry)) ⌝ }
+    ensures { λ r. ⌜ record { given = givenBy r; buffer = now (tp .exit) } ≡ drew s (now (low .entry)) (now (ordinary .entry)) (now (tp .entry)) ⌝ }
     ensures { λ r. ⌜ SoundAnswer r ⌝ }
 {
     let g = s.setting;

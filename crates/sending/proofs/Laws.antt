@@ -11,7 +11,7 @@ use Rattle.block.specs.Block.{Block, placed, put}
 use Rattle.block.proofs.Laws.{fits, length-placed, blockOf}
 use Rattle.house.specs.Records.{headOf}
 use Rattle.house.specs.declared.Record.the-variants.{Packet}
-use Rattle.sender.specs.Answers.{Left}
+use Rattle.sender.specs.Answers.{givenBy, Left}
 use Rattle.sender.specs.Drawing.{drew}
 use Rattle.sender.specs.declared.Sender.{Sender}
 use Rattle.sender.specs.declared.Answer.{Answer}
@@ -81,9 +81,9 @@ module _ (d : List ℕ) (at tp : ℕ) (h : at + 8 + tp ≤ length d) where
     sized = same ∙ ap (λ (k : ℕ). length (take k (drop (at + 8) d))) size ∙ lent
 
     abbrev pub drewAs : Answer → Type 0
-    drewAs a = _≡_ {A = Left} (record { answer = a; buffer = b }) (drew s low ordinary (take (at + 8 + tp - (at + 8)) (drop (at + 8) d)))
+    drewAs a = _≡_ {A = Left} (record { given = givenBy a; buffer = b }) (drew s low ordinary (take (at + 8 + tp - (at + 8)) (drop (at + 8) d)))
 
-    by-draw : (a : Answer) → drewAs a → drawnBy (record { answer = a; buffer = b }) s tp d at ≡ drawnOf s low ordinary tp d at
+    by-draw : (a : Answer) → drewAs a → drawnBy (record { given = givenBy a; buffer = b }) s tp d at ≡ drawnOf s low ordinary tp d at
     unfolding drawnOf
     by-draw a g =
         rw (le-leb (at + 8 + tp) (length d) h)

@@ -8,7 +8,7 @@ use Rattle.house.specs.Slices as W
 use Rattle.house.specs.declared.Record.{Record}
 use Rattle.house.specs.declared.Record.the-variants.{Setup, Ordinary, Low, Draw}
 use Rattle.house.specs.declared.Written.{Written}
-use Rattle.sender.specs.Answers.{Left}
+use Rattle.sender.specs.Answers.{Given, givenBy, Left}
 use Rattle.sender.specs.Offering.{ordinaryOffered, lowOffered}
 use Rattle.sender.specs.declared.Sender.{Sender}
 use Rattle.sender.specs.declared.Answer.{Answer}
@@ -18,26 +18,26 @@ abbrev after : Sender → List ℕ → List ℕ → Block → ℕ → After
 after s low ordinary o n = record { sender = s; low = low; ordinary = ordinary; block = o; refused = n }
 
 abbrev left : Answer → List ℕ → Left
-left a b = record { answer = a; buffer = b }
+left a b = record { given = givenBy a; buffer = b }
 
 module _ (said : Record) (s : Sender) (d low ordinary : List ℕ) (tp : ℕ) (o : Block) where
   abbrev Turns : After → Type 0
   Turns x = x ≡ turnOf said s d low ordinary tp o
 
   pub to-ordinary : (c n : ℕ) (b : List ℕ) {a : Answer} (w : Answer) (k : ℕ)
-      → said ≡ Ordinary c n → left a b ≡ ordinaryOffered s low ordinary c d → a ≡ w → k ≡ refusedBy w → Turns (after (kept w s) low b o k)
+      → said ≡ Ordinary c n → left a b ≡ ordinaryOffered s low ordinary c d → a ≡ w → k ≡ refusedBy (givenBy w) → Turns (after (kept (givenBy w) s) low b o k)
   to-ordinary c n b w k is g e told =
-      ap (λ (m : ℕ). after (kept w s) low b o m) told
-      ∙ ap (λ (x : Answer). after (kept x s) low b o (refusedBy x)) (sym e)
-      ∙ ap (λ (l : Left). after (kept (l .answer) s) low (l .buffer) o (refusedBy (l .answer))) g
+      ap (λ (m : ℕ). after (kept (givenBy w) s) low b o m) told
+      ∙ ap (λ (x : Answer). after (kept (givenBy x) s) low b o (refusedBy (givenBy x))) (sym e)
+      ∙ ap (λ (l : Left). after (kept (l .given) s) low (l .buffer) o (refusedBy (l .given))) g
       ∙ ap (λ (x : Record). turnOf x s d low ordinary tp o) (sym is)
 
   pub to-low : (c n : ℕ) (b : List ℕ) {a : Answer} (w : Answer) (k : ℕ)
-      → said ≡ Low c n → left a b ≡ lowOffered s low ordinary c d → a ≡ w → k ≡ refusedBy w → Turns (after (kept w s) b ordinary o k)
+      → said ≡ Low c n → left a b ≡ lowOffered s low ordinary c d → a ≡ w → k ≡ refusedBy (givenBy w) → Turns (after (kept (givenBy w) s) b ordinary o k)
   to-low c n b w k is g e told =
-      ap (λ (m : ℕ). after (kept w s) b ordinary o m) told
-      ∙ ap (λ (x : Answer). after (kept x s) b ordinary o (refusedBy x)) (sym e)
-      ∙ ap (λ (l : Left). after (kept (l .answer) s) (l .buffer) ordinary o (refusedBy (l .answer))) g
+      ap (λ (m : ℕ). after (kept (givenBy w) s) b ordinary o m) told
+      ∙ ap (λ (x : Answer). after (kept (givenBy x) s) b ordinary o (refusedBy (givenBy x))) (sym e)
+      ∙ ap (λ (l : Left). after (kept (l .given) s) (l .buffer) ordinary o (refusedBy (l .given))) g
       ∙ ap (λ (x : Record). turnOf x s d low ordinary tp o) (sym is)
 
   pub to-draw : (x : Drawn) → said ≡ Draw → x ≡ drawnOf s low ordinary tp (o .bytes) (o .at) → Turns (after (x .sender) low ordinary (x .block) (x .refused))

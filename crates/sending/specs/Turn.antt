@@ -12,27 +12,25 @@ use Rattle.house.specs.declared.Record.the-variants.{Setup, Ordinary, Low, Draw
 use Rattle.house.specs.declared.Written.{Written}
 use Rattle.house.specs.declared.Written.the-variants.{Till, NoRoom, OtherLength}
 use Rattle.house.specs.Slices.{writtenIn}
-use Rattle.sender.specs.Answers.{Left, number}
+use Rattle.sender.specs.Answers.{Given, done, refusal, Left}
 use Rattle.sender.specs.Offering.{ordinaryOffered, lowOffered}
 use Rattle.sender.specs.Drawing.{drew}
 use Rattle.sender.specs.declared.Sender.{Sender}
-use Rattle.sender.specs.declared.Answer.{Answer}
-use Rattle.sender.specs.declared.Answer.the-variants.{Done, Refused}
 
 -- "A refused offer is skipped."
-abbrev pub kept : Answer → Sender → Sender
-kept (Done t) s = t
-kept (Refused k) s = s
+abbrev pub kept : Given → Sender → Sender
+kept (done t) s = t
+kept (refusal n) s = s
 
 -- document 01's number where it is refused, else 0
-abbrev pub refusedBy : Answer → ℕ
-refusedBy (Done t) = 0
-refusedBy (Refused k) = number k
+abbrev pub refusedBy : Given → ℕ
+refusedBy (done t) = 0
+refusedBy (refusal n) = n
 
 -- the draw is lent the block's bytes behind its record's head, and leaves b there; a drawn TP goes out as a record of kind 4
-abbrev pub wrote : Answer → List ℕ → ℕ → List ℕ → ℕ → Block
-wrote (Done t) b tp out at = put out at (recordBytes (Packet tp) b)
-wrote (Refused k) b tp out at = record { bytes = placed out (at + 8) b; at = at }
+abbrev pub wrote : Given → List ℕ → ℕ → List ℕ → ℕ → Block
+wrote (done t) b tp out at = put out at (recordBytes (Packet tp) b)
+wrote (refusal n) b tp out at = record { bytes = placed out (at + 8) b; at = at }
 
 -- (no draw is refused here, so none is told)
 pub record Drawn : Type 0 where
@@ -41,7 +39,7 @@ pub record Drawn : Type 0 where
   pub refused : ℕ
 
 abbrev pub drawnBy : Left → Sender → ℕ → List ℕ → ℕ → Drawn
-drawnBy l s tp out at = record { sender = kept (l .answer) s; block = wrote (l .answer) (l .buffer) tp out at; refused = 0 }
+drawnBy l s tp out at = record { sender = kept (l .given) s; block = wrote (l .given) (l .buffer) tp out at; refused = 0 }
 
 unfoldable pub drawnOf : Sender → List ℕ → List ℕ → ℕ → List ℕ → ℕ → Drawn
 drawnOf s low ordinary tp out at =
@@ -62,10 +60,10 @@ abbrev pub turnOf : Record → Sender → List ℕ → List ℕ → List ℕ →
 turnOf Setup s d low ordinary tp o = record { sender = s; low = low; ordinary = ordinary; block = o; refused = 0 }
 turnOf (Ordinary c n) s d low ordinary tp o =
     let l = ordinaryOffered s low ordinary c d in
-    record { sender = kept (l .answer) s; low = low; ordinary = l .buffer; block = o; refused = refusedBy (l .answer) }
+    record { sender = kept (l .given) s; low = low; ordinary = l .buffer; block = o; refused = refusedBy (l .given) }
 turnOf (Low c n) s d low ordinary tp o =
     let l = lowOffered s low ordinary c d in
-    record { sender = kept (l .answer) s; low = l .buffer; ordinary = ordinary; block = o; refused = refusedBy (l .answer) }
+    record { sender = kept (l .given) s; low = l .buffer; ordinary = ordinary; block = o; refused = refusedBy (l .given) }
 turnOf Draw s d low ordinary tp o =
     let l = drawnOf s low ordinary tp (o .bytes) (o .at) in
     record { sender = l .sender; low = low; ordinary = ordinary; block = l .block; refused = l .refused }
