@@ -1,3 +1,4 @@
 pub mod Sixth
 pub mod Checked
 pub mod Contract
+pub mod SenderContract
