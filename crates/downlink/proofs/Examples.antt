@@ -11,7 +11,8 @@ use Rattle.golay.specs.Golay.{codeWord, chosen}
 use Rattle.wire.specs.Wire.{word, firstNumber, header, ep, streamByte, offsetNumber, tpHeader}
 use Rattle.queue.specs.Ring.{around, held, longer, written, wrap, off}
 use Rattle.sender.specs.Answers.{lent}
-use Rattle.sender.specs.Opening.{allowed, small, fresh, opened}
+use Rattle.wire.specs.Limits.{linkAllowed, allowed}
+use Rattle.sender.specs.Opening.{small, fresh, opened}
 use Rattle.receiver.specs.Call.{freshOf}
 use Rattle.sender.specs.Offering.{pieces, spBytes, known, wantOrdinary, ordinaryOffered, wantLow, lowOffered}
 use Rattle.sender.specs.Drawing.{headAt, sizeIn, contentIn, lowIn, lowAt, overwritten, leave, part, fill, lacking, stream, owedAfter, span, restAfter, offset, drawWith, drawOf, drawBy}
@@ -110,7 +111,7 @@ fixed r p ps os = (λ x. x .low, λ x. x .ordinary)
 
 -- its sender, and a receiver with a room as long as the queue; nothing changed on the way
 unfoldable pub link : Link
-unfolding world room opened allowed small
+unfolding world room opened linkAllowed allowed small
 link =
     record {
       size = 16;

@@ -2,19 +2,18 @@
 -- Assumes nothing.
 use Prim.Native.Nat.{ℕ, _-_, _≤_}
 use mathlib.Core.Path.{_≡_, refl, sym, ap, ap₂, _∙_, subst⁻¹}
-use mathlib.Core.Bool.{Bool, true, false, cond, _&&_}
+use mathlib.Core.Bool.{Bool, true, false, cond}
 use mathlib.Core.List.{List, [], _∷_, _++_}
 use native.Mathlib.Omega.{arith}
-use lib.Dec.{leb}
 use lib.ListN.{length}
-use borrow.Author.Tests.{leb-true}
 use Rattle.queue.specs.declared.Ring.{Ring}
 use Rattle.queue.specs.Ring.{held}
 use Rattle.sender.specs.declared.Sender.{Sender}
-use Rattle.sender.specs.Answers.{done, refusal}
+use Rattle.sender.specs.Answers.{done}
 use Rattle.sender.specs.Offering.{wantOrdinary, ordinaryOffered, wantLow, lowOffered}
 use Rattle.sender.specs.Drawing as D
-use Rattle.sender.specs.Opening.{allowed, small, empty, fresh, opened}
+use Rattle.sender.specs.Opening.{empty, fresh, opened}
+use Rattle.sender.proofs.Opens.{opened-is}
 use Rattle.receiver.specs.Low.{wire}
 use Rattle.sender.specs.Run.{Call, ordinary, low, draw, lending, World, Deed, refused, took, tookLow, drew, lentOthers, ownLengths, next, deed, deeds, left, undrawn}
 use Rattle.downlink.specs.Hearing.{Packet}
@@ -112,39 +111,21 @@ module _ (P str F ls os : ℕ) (top : P ≤ 2047) (piece₁ : 1 ≤ F) (piece₂
 
 -- ---- the opening
 
-both : (a b : Bool) → a && b ≡ true → (a ≡ true) × (b ≡ true)
-both true true e = (refl, refl)
-both true false e = (refl, e)
-both false b e = (e, cc)
-
 nothing-held : (b : List ℕ) → held b empty ≡ []
 unfolding held
 nothing-held b = refl
 
 module _ (size str F : ℕ) (lb ob : List ℕ) (s : Sender) (e : opened size str F (length lb) (length ob) ≡ done s) where
-  is-fresh : (t : Bool) (k : ℕ) → cond t (done (fresh size str F (length lb) (length ob))) (refusal k) ≡ done s → (t ≡ true) × (s ≡ fresh size str F (length lb) (length ob))
-  is-fresh true k e = (refl, cc)
-  is-fresh false k e = (cc, cc)
-
-  opening : (allowed size str F && small (length lb) (length ob) ≡ true) × (s ≡ fresh size str F (length lb) (length ob))
-  unfolding opened
-  opening = is-fresh (allowed size str F && small (length lb) (length ob)) _ e
-
   pub limits : (16 ≤ size) × (size ≤ 2051) × (str ≤ 15) × (1 ≤ F) × (F ≤ 65535)
-  unfolding allowed
   limits =
-      let a = both (allowed size str F) (small (length lb) (length ob)) (opening .0) .0 in
-      let p₁ = both (leb 16 size) (leb size 2051 && (leb str 15 && (leb 1 F && leb F 65535))) a in
-      let p₂ = both (leb size 2051) (leb str 15 && (leb 1 F && leb F 65535)) (p₁ .1) in
-      let p₃ = both (leb str 15) (leb 1 F && leb F 65535) (p₂ .1) in
-      let p₄ = both (leb 1 F) (leb F 65535) (p₃ .1) in
-      (leb-true 16 size (p₁ .0), leb-true size 2051 (p₂ .0), leb-true str 15 (p₃ .0), leb-true 1 F (p₄ .0), leb-true F 65535 (p₄ .1))
+      let l = opened-is size str F (length lb) (length ob) s e .0 in
+      (l .tp-least, l .tp-most, l .stream-most, l .piece-least, l .piece-most)
 
   pub start : (top : size - 4 ≤ 2047) (p₁ : 1 ≤ F) (p₂ : F ≤ 65535)
       → Holds (size - 4) str F (length lb) (length ob) top p₁ p₂ (record { sender = s; low = lb; ordinary = ob }) [] []
   unfolding Plain Good
   start top p₁ p₂ =
-      subst⁻¹ (λ (x : Sender). Holds (size - 4) str F (length lb) (length ob) top p₁ p₂ (record { sender = x; low = lb; ordinary = ob }) [] []) (opening .1)
+      subst⁻¹ (λ (x : Sender). Holds (size - 4) str F (length lb) (length ob) top p₁ p₂ (record { sender = x; low = lb; ordinary = ob }) [] []) (opened-is size str F (length lb) (length ob) s e .1)
       (hold (size - 4) str F (length lb) (length ob) top p₁ p₂ [] [] empty empty 0 0 lb ob [] []
       (record {
         kl = record { head = omega arith; len = omega arith };

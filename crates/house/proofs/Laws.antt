@@ -10,6 +10,7 @@ use lib.ListN.{length, take, drop, length-append}
 use lib.Seq.{length-take-le, take-at, drop-at}
 use Rattle.block.specs.Block.{placed}
 use Rattle.digits.specs.Digits.{digits, number}
+use Rattle.wire.specs.Limits.{linkAllowed, allowed}
 use Rattle.house.specs.declared.Record.{Record}
 use Rattle.house.specs.declared.Record.the-variants.{Setup, Ordinary, Low, Draw, Packet, Gap}
 use Rattle.house.specs.declared.Place.{Place}
@@ -64,7 +65,8 @@ written-again p r d out at h f same room =
 
 -- written settings within the limits are read as they were
 pub settings-again : (s : S.Setup) → 16 ≤ s .tp → s .tp ≤ 2051 → s .stream ≤ 15 → 1 ≤ s .piece → s .piece < 65536 → settingsOf (setupBytes s) ≡ Within s
-unfolding settingsOf
+unfolding settingsOf linkAllowed allowed
 settings-again s a b c d e =
     let t : number 0 (digits 2 (s .tp)) ≡ s .tp = two (s .tp) (omega arith) in
-    rw (t, two (s .piece) e, le-leb 16 (s .tp) a, le-leb (s .tp) 2051 b, le-leb (s .stream) 15 c, le-leb 1 (s .piece) d)
+    let f : s .piece ≤ 65535 = omega arith in
+    rw (t, two (s .piece) e, le-leb 16 (s .tp) a, le-leb (s .tp) 2051 b, le-leb (s .stream) 15 c, le-leb 1 (s .piece) d, le-leb (s .piece) 65535 f)

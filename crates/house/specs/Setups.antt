@@ -2,9 +2,10 @@
 use Prim.Native.Nat.{ℕ}
 use mathlib.Core.Bool.{Bool, cond, _&&_}
 use mathlib.Core.List.{List, [], _∷_, _++_}
-use lib.Dec.{eqb, leb}
+use lib.Dec.{eqb}
 use lib.ListN.{length, getD}
 use Rattle.digits.specs.Digits.{digits, number}
+use Rattle.wire.specs.Limits.{allowed}
 use Rattle.house.specs.declared.Setup.{Setup}
 use Rattle.house.specs.declared.Settings.{Settings}
 use Rattle.house.specs.declared.Settings.the-variants.{Within, Outside}
@@ -18,9 +19,9 @@ setupIn d =
       piece = number 0 (getD d 3 0 ∷ getD d 4 0 ∷ []);
     }
 
--- "Opened with TP length 16 to 2,051 .., stream 0 to 15, fragment size F of 1 to 65,535"; two bytes hold no larger F
+-- "a setup outside the sender's limits"
 abbrev pub within : Setup → Bool
-within s = leb 16 (s .tp) && (leb (s .tp) 2051 && (leb (s .stream) 15 && leb 1 (s .piece)))
+within s = allowed (s .tp) (s .stream) (s .piece)
 
 -- "Data are 5 bytes in kind 0"
 unfoldable pub settingsOf : List ℕ → Settings

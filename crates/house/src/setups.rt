@@ -14,16 +14,7 @@ pub fn read_setup(data: &[u8]) -> Settings
     let tp = digits::from_two(data[0], data[1]);
     let stream = data[2];
     let piece = digits::from_two(data[3], data[4]);
-    if tp < 16 {
-        return Settings::Outside;
-    }
-    if 2051 < tp {
-        return Settings::Outside;
-    }
-    if 15 < stream {
-        return Settings::Outside;
-    }
-    if piece < 1 {
+    if !wire::is_allowed(tp, stream, piece) {
         return Settings::Outside;
     }
     Settings::Within(Setup { tp, stream, piece })

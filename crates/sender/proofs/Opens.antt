@@ -1,34 +1,14 @@
 -- Laws of the opening. Assumes nothing.
-use mathlib.Core.Path.{_≡_}
-use mathlib.Core.Bool.{true, false}
+use mathlib.Core.Path.{_≡_, refl}
+use mathlib.Core.Bool.{Bool, true, false, cond, _&&_}
 use Prim.Native.Nat.{ℕ, _≤_, _<_}
 use native.Mathlib.Omega.{arith}
-use lib.Dec.{leb}
-use borrow.Author.Tests.{le-leb, lt-leb, leb-true}
+use borrow.Author.Tests.{le-leb, lt-leb}
+use Rattle.wire.specs.Limits.{allowed}
+use Rattle.wire.proofs.Allowing.{both, Allowed, limits}
+use Rattle.sender.specs.declared.Sender.{Sender}
 use Rattle.sender.specs.Answers.{done, refusal}
-use Rattle.sender.specs.Opening.{Sound, allowed, small, fresh, opened}
-use Rattle.sender.proofs.Bools.{and-left, and-right}
-
-pub record Allowed (tp stream F : ℕ) : Type 0 where
-  pub tp-least : 16 ≤ tp
-  pub tp-most : tp ≤ 2051
-  pub stream-most : stream ≤ 15
-  pub piece-least : 1 ≤ F
-  pub piece-most : F ≤ 65535
-
-pub limits : (tp stream F : ℕ) → allowed tp stream F ≡ true → Allowed tp stream F
-unfolding allowed
-limits tp stream F e =
-    let e₁ = and-right (leb 16 tp) _ e in
-    let e₂ = and-right (leb tp 2051) _ e₁ in
-    let e₃ = and-right (leb stream 15) _ e₂ in
-    record {
-      tp-least = leb-true 16 tp (and-left (leb 16 tp) _ e);
-      tp-most = leb-true tp 2051 (and-left (leb tp 2051) _ e₁);
-      stream-most = leb-true stream 15 (and-left (leb stream 15) _ e₂);
-      piece-least = leb-true 1 F (and-left (leb 1 F) _ e₃);
-      piece-most = leb-true F 65535 (and-right (leb 1 F) _ e₃);
-    }
+use Rattle.sender.specs.Opening.{Sound, small, fresh, opened}
 
 module _ (tp stream F low ordinary : ℕ) where
   pub open-not : allowed tp stream F ≡ false → refusal 1 ≡ opened tp stream F low ordinary
@@ -69,3 +49,14 @@ module _ (tp stream F low ordinary : ℕ) where
             owed = omega arith;
             rest = omega arith;
           }
+
+-- what is opened is fresh, and its settings are within the limits
+pub opened-is : (tp stream F low ordinary : ℕ) (s : Sender) → opened tp stream F low ordinary ≡ done s → Allowed tp stream F × (s ≡ fresh tp stream F low ordinary)
+unfolding opened
+opened-is tp stream F low ordinary s e =
+    let o = go (allowed tp stream F && small low ordinary) e in
+    (limits tp stream F (both (allowed tp stream F) (small low ordinary) (o .0) .0), o .1)
+  where
+    go : (t : Bool) → cond t (done (fresh tp stream F low ordinary)) (refusal 1) ≡ done s → (t ≡ true) × (s ≡ fresh tp stream F low ordinary)
+    go true g = (refl, cc)
+    go false g = (cc, cc)

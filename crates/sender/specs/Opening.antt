@@ -4,14 +4,11 @@ use mathlib.Core.Bool.{Bool, cond, _&&_}
 use Prim.Native.Nat.{ℕ, _-_, _≤_}
 use lib.Dec.{leb}
 use Rattle.queue.specs.declared.Ring.{Ring}
+use Rattle.wire.specs.Limits.{allowed}
 use Rattle.sender.specs.declared.Sender.{Sender}
 use Rattle.sender.specs.declared.Answer.{Answer}
 use Rattle.sender.specs.declared.Answer.the-variants.{Done, Refused}
 use Rattle.sender.specs.Answers.{Given, done, refusal}
-
--- TP length 16 to 2,051, stream 0 to 15, fragment size F of 1 to 65,535
-unfoldable pub allowed : ℕ → ℕ → ℕ → Bool
-allowed tp stream F = leb 16 tp && (leb tp 2051 && (leb stream 15 && (leb 1 F && leb F 65535)))
 
 -- two queue buffers of at most 1,048,576 bytes each
 unfoldable pub small : ℕ → ℕ → Bool

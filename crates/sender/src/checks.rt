@@ -1,11 +1,10 @@
-// What settings and packets are allowed.
+// What packets are allowed.
 ghost use mathlib.Core.Path.{_≡_};
 ghost use mathlib.Core.Bool.{not};
 ghost use Prim.Native.Nat.{_≤_};
 ghost use lib.Dec.{ltb};
 ghost use lib.ListN.{length};
 ghost use Rattle.sender.specs.declared.Refusal.the-variants.{Content, Long, Full};
-ghost use Rattle.sender.specs.Opening.{allowed};
 ghost use Rattle.sender.specs.Offering.{known, spBytes};
 ghost use Rattle.sender.specs.Steps.{checked, firstOf, judgedOf};
 use crate::Refusal;
@@ -15,24 +14,6 @@ use wire::Sort;
 pub enum Check {
     Fine,
     No(Refusal),
-}
-
-pub fn is_allowed(tp: usize, stream: u8, piece: usize) -> bool
-    ensures { λ r. ⌜ r ≡ allowed tp stream piece ⌝ }
-{
-    if tp < 16 {
-        return false;
-    }
-    if 2051 < tp {
-        return false;
-    }
-    if 15 < stream {
-        return false;
-    }
-    if piece < 1 {
-        return false;
-    }
-    piece <= 65535
 }
 
 pub fn is_known(content: u8) -> bool

@@ -54,7 +54,7 @@ pub fn open(tp: usize, stream: u8, piece: usize, low: &[u8], ordinary: &[u8]) ->
     ensures { λ r. ⌜ givenBy r ≡ opened tp stream piece (length (now (low .entry))) (length (now (ordinary .entry))) ⌝ }
     ensures { λ r. ⌜ SoundAnswer r ⌝ }
 {
-    if !checks::is_allowed(tp, stream, piece) {
+    if !wire::is_allowed(tp, stream, piece) {
         return Answer::Refused(Refusal::Limits);
     }
     if 1048576 < low.len() {

@@ -1,2 +1,3 @@
 pub mod Wire
 pub mod Reading
+pub mod Limits

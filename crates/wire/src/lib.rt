@@ -3,7 +3,12 @@ ghost use mathlib.Core.Path.{_≡_};
 ghost use Prim.Native.Nat.{_+_, _≤_};
 ghost use Rattle.wire.specs.Wire.{word, header, offsetNumber, tpHeader};
 ghost use Rattle.wire.specs.Reading.{fieldsOf, headerIn, readOf, tpNumberIn, tpWordOf, sortOf};
+
+mod limits;
+
 use golay::Decoded;
+pub use limits::is_allowed;
+pub use limits::is_link;
 
 // What a header says, and how many bits were repaired in it.
 pub struct Header {

@@ -3,7 +3,8 @@ use mathlib.Core.Path.{sym, _∙_}
 use native.Mathlib.Omega.{arith}
 use borrow.Author.Tests.{not-true, not-false}
 use lib.ListN.{length}
-use Rattle.sender.proofs.Opens.{limits, open-not, open-low, open-ordinary, open-done, open-sound}
+use Rattle.wire.proofs.Allowing.{limits}
+use Rattle.sender.proofs.Opens.{open-not, open-low, open-ordinary, open-done, open-sound}
 use borrow.Author.Needs.{needs}
 use Rattle.sender.proofs.open.Statement.{statement}
 use Rattle.sender.proofs.open.Tie as tie

@@ -1,6 +1,7 @@
 -- `house::setups::read_setup` meets its contract: at each return the tests that led there say which case holds.
 -- Assumes nothing.
-use borrow.Author.Tests.{eq-eqb, ne-eqb, le-leb, lt-leb}
+use mathlib.Core.Path.{sym, _∙_}
+use borrow.Author.Tests.{eq-eqb, ne-eqb, not-true, not-false}
 use Rattle.house.specs.Setups.{settingsOf}
 use borrow.Author.Needs.{needs}
 use Rattle.house.proofs.setups.read_setup.Statement.{statement}
@@ -31,25 +32,16 @@ shared-slice-read-from-two-4 c = search needs
 from-two-requires-2 : tie.Need-from-two-requires-2
 from-two-requires-2 c κs = search needs
 
+is-allowed-requires : tie.Need-is-allowed-requires
+is-allowed-requires c κs = search needs
+
 returns-2 : tie.Need-returns-2
 unfolding settingsOf
-returns-2 c = rw (eq-eqb _ _ (c .before .before .before .before .before .before .before .before .if1 .left), ← c .before .before .before .before .before .from-two .ensures, lt-leb _ _ (c .if2 .taken))
+returns-2 c = rw (eq-eqb _ _ (c .before .before .before .before .before .before .before .before .before .if1 .left), ← c .before .before .before .before .before .before .from-two .ensures, ← c .before .before .from-two2 .ensures, sym (c .before .is-allowed .ensures) ∙ not-true _ (c .if2 .taken))
 
 returns-3 : tie.Need-returns-3
 unfolding settingsOf
-returns-3 c = rw (eq-eqb _ _ (c .before .before .before .before .before .before .before .before .before .if1 .left), ← c .before .before .before .before .before .before .from-two .ensures, le-leb _ _ (c .before .if2 .left), lt-leb _ _ (c .if3 .taken))
-
-returns-4 : tie.Need-returns-4
-unfolding settingsOf
-returns-4 c = rw (eq-eqb _ _ (c .before .before .before .before .before .before .before .before .before .before .if1 .left), ← c .before .before .before .before .before .before .before .from-two .ensures, le-leb _ _ (c .before .before .if2 .left), le-leb _ _ (c .before .if3 .left), lt-leb _ _ (c .if4 .taken))
-
-returns-5 : tie.Need-returns-5
-unfolding settingsOf
-returns-5 c = rw (eq-eqb _ _ (c .before .before .before .before .before .before .before .before .before .before .before .if1 .left), ← c .before .before .before .before .before .before .before .before .from-two .ensures, le-leb _ _ (c .before .before .before .if2 .left), le-leb _ _ (c .before .before .if3 .left), le-leb _ _ (c .before .if4 .left), ← c .before .before .before .before .from-two2 .ensures, lt-leb _ _ (c .if5 .taken))
-
-returns-6 : tie.Need-returns-6
-unfolding settingsOf
-returns-6 c = rw (eq-eqb _ _ (c .before .before .before .before .before .before .before .before .before .before .before .if1 .left), ← c .before .before .before .before .before .before .before .before .from-two .ensures, le-leb _ _ (c .before .before .before .if2 .left), le-leb _ _ (c .before .before .if3 .left), le-leb _ _ (c .before .if4 .left), ← c .before .before .before .before .from-two2 .ensures, le-leb _ _ (c .if5 .left))
+returns-3 c = rw (eq-eqb _ _ (c .before .before .before .before .before .before .before .before .before .if1 .left), ← c .before .before .before .before .before .before .from-two .ensures, ← c .before .before .from-two2 .ensures, sym (c .before .is-allowed .ensures) ∙ not-false _ (c .if2 .left))
 
 pub read-setup-spec : {M : Type 1} → statement M
 read-setup-spec =
@@ -63,8 +55,6 @@ read-setup-spec =
     shared-slice-read-from-two-3
     shared-slice-read-from-two-4
     from-two-requires-2
+    is-allowed-requires
     returns-2
-    returns-3
-    returns-4
-    returns-5
-    returns-6)
+    returns-3)
