@@ -1,7 +1,9 @@
 -- The listing (document 01, 'Listing'): a header line, then a line for each find. Assumes nothing.
 use Prim.Native.Nat.{ℕ}
+use mathlib.Core.Option.{Option, none, some}
 use mathlib.Core.List.{List, [], _∷_, _++_}
 use Rattle.block.specs.Decimal.{decimal}
+use Rattle.receiver.specs.Call.{findNumber}
 use Rattle.receiver.specs.declared.Find.{Find}
 use Rattle.receiver.specs.declared.Find.the-variants.{Nothing, Refused, Notice, Low, Ordinary}
 
@@ -25,10 +27,15 @@ noticeWord = 0x20 ∷ 0x6E ∷ 0x6F ∷ 0x74 ∷ 0x69 ∷ 0x63 ∷ 0x65 ∷ 0x20
 unfoldable pub lineWith : ℕ → List ℕ → ℕ → ℕ → List ℕ
 lineWith tp word c n = decimal tp ++ word ++ decimal c ++ (0x20 ∷ []) ++ decimal n ++ (0x0A ∷ [])
 
--- "(low, ordinary, notice)"; "(0 for a notice)"; a refusal is number 1; nothing has no line
+-- "notice number", which document 01 gives an answer, "(0 for a notice)"
+abbrev pub noticeLine : ℕ → Option ℕ → List ℕ
+noticeLine tp none = []
+noticeLine tp (some k) = lineWith tp noticeWord k 0
+
+-- "(low, ordinary, notice)"; nothing has no line
 abbrev pub lineOf : ℕ → Find → List ℕ
 lineOf tp Nothing = []
-lineOf tp Refused = lineWith tp noticeWord 1 0
-lineOf tp (Notice k) = lineWith tp noticeWord k 0
+lineOf tp Refused = noticeLine tp (findNumber Refused)
+lineOf tp (Notice k) = noticeLine tp (findNumber (Notice k))
 lineOf tp (Low c start n) = lineWith tp lowWord c n
 lineOf tp (Ordinary c n) = lineWith tp ordinaryWord c n
