@@ -42,6 +42,9 @@ in-part d s b n h e =
 front : (d : List ℕ) (n : ℕ) (s : List ℕ) → n ≤ length d → length (take n d ++ s) ≡ n + length s
 front d n s h = rw (length-append, length-take-le n d h)
 
+pub held-placed : (d : List ℕ) (n : ℕ) (s : List ℕ) → n + length s ≤ length d → take (n + length s) (placed d n s) ≡ take n d ++ s
+held-placed d n s h = take-at (take n d ++ s) (drop (n + length s) d) (n + length s) (front d n s (omega arith))
+
 pub length-placed : (d : List ℕ) (n : ℕ) (s : List ℕ) → n + length s ≤ length d → length (placed d n s) ≡ length d
 length-placed d n s h = let k : n ≤ length d = omega arith in rw (length-append, front d n s k, length-drop) (omega arith)
 
@@ -53,7 +56,7 @@ module _ (d : List ℕ) (n : ℕ) (s t : List ℕ) (h : n + length s + length t 
   holds = omega arith
 
   taken : take (n + length s) (placed d n s) ≡ take n d ++ s
-  taken = take-at (take n d ++ s) (drop (n + length s) d) (n + length s) (front d n s holds)
+  taken = held-placed d n s (omega arith)
 
   dropped : drop (n + length s + length t) (placed d n s) ≡ drop (n + length s + length t) d
   dropped =

@@ -37,4 +37,5 @@ examples-hold =
     and example-6
     and example-6-listed
     and refl
+    and refl
     and done

@@ -18,7 +18,10 @@ use Rattle.receiver.specs.Join as J
 use Rattle.receiver.specs.Join.{Finding, free}
 use Rattle.receiver.specs.Low.{Tag, wire}
 use Rattle.receiver.specs.Tp.{Input, tpIn, listingAll}
+use Rattle.house.specs.Series.{Item}
+use Rattle.house.specs.declared.Record.the-variants as R
 use Rattle.listing.specs.Recordings.{listed}
+use Rattle.sending.specs.Scripts.{recording}
 
 -- a sender of TP length 16, stream 0, F of 65,535, with two queues of 32 bytes
 abbrev pub opened : World
@@ -46,7 +49,7 @@ abbrev pub listing : List (List ℕ) → List ℕ
 listing bs = listed (record { size = 16; stream = 0; room = 32768 }) (inputs bs)
 
 -- what an example can say: a number's code word; what a word is read as; what an end byte means; the EPs of an SP with fragment
--- size F; the TPs that calls give; the finds that TPs give; their listing
+-- size F; the TPs that calls give; the finds that TPs give; their listing; the recording that a script gives
 pub data Example : Type 0 where
   encodes : ℕ → ℕ → Example
   decodes : ℕ → Decoded → Example
@@ -55,6 +58,7 @@ pub data Example : Type 0 where
   sends : List Call → List (List ℕ) → Example
   reads : List (List ℕ) → List (Finding wire) → Example
   lists : List (List ℕ) → List ℕ → Example
+  records : List ℕ → List Item → List ℕ → Example
 
 abbrev pub Holds : Example → Type 0
 Holds (encodes n w) = codeWord n ≡ w
@@ -64,6 +68,7 @@ Holds (cuts F c d es) = pieces F c d ≡ es
 Holds (sends cs bs) = bytesOf (tps (deeds opened cs)) ≡ bs
 Holds (reads bs fs) = read bs ≡ fs
 Holds (lists bs t) = listing bs ≡ t
+Holds (records s xs t) = recording 16 s opened xs ≡ t
 
 -- all of a list hold
 infixr 5 _and_
@@ -92,6 +97,26 @@ sixthListing =
     ++ (0x31 ∷ 0x20 ∷ 0x6C ∷ 0x6F ∷ 0x77 ∷ 0x20 ∷ 0x31 ∷ 0x20 ∷ 0x32 ∷ 0x0A ∷ [])
     ++ (0x32 ∷ 0x20 ∷ 0x6F ∷ 0x72 ∷ 0x64 ∷ 0x69 ∷ 0x6E ∷ 0x61 ∷ 0x72 ∷ 0x79 ∷ 0x20 ∷ 0x34 ∷ 0x20 ∷ 0x31 ∷ 0x0A ∷ [])
 
+-- "setup 00 10 00 FF FF"
+abbrev pub sixthSetup : List ℕ
+sixthSetup = 0x00 ∷ 0x10 ∷ 0x00 ∷ 0xFF ∷ 0xFF ∷ []
+
+-- "Offer low-latency content 1, data 11 22; offer ordinary content 4, data 33; draw twice", as records
+abbrev pub sixthScript : List Item
+sixthScript =
+    record { said = R.Low 1 2; bytes = 0x11 ∷ 0x22 ∷ [] }
+    ∷ record { said = R.Ordinary 4 1; bytes = 0x33 ∷ [] }
+    ∷ record { said = R.Draw; bytes = [] }
+    ∷ record { said = R.Draw; bytes = [] }
+    ∷ []
+
+-- the setup, "and these as kind 4 records"
+abbrev pub sixthRecording : List ℕ
+sixthRecording =
+    (0xC7 ∷ 0x07 ∷ 0x00 ∷ 0x00 ∷ 0x00 ∷ 0x00 ∷ 0x00 ∷ 0x05 ∷ sixthSetup)
+    ++ (0xC7 ∷ 0x07 ∷ 0x04 ∷ 0x00 ∷ 0x00 ∷ 0x00 ∷ 0x00 ∷ 0x10 ∷ firstTp)
+    ++ (0xC7 ∷ 0x07 ∷ 0x04 ∷ 0x00 ∷ 0x00 ∷ 0x00 ∷ 0x00 ∷ 0x10 ∷ secondTp)
+
 abbrev pub examples : List Example
 examples =
     encodes 0x000 0x000000
@@ -109,6 +134,7 @@ examples =
     ∷ sends (low 1 (0x11 ∷ 0x22 ∷ []) ∷ ordinary 4 (0x33 ∷ []) ∷ drawn ∷ drawn ∷ []) sixth
     ∷ reads sixth (J.low (intact 1) (0x11 ∷ 0x22 ∷ []) ∷ J.ordinary (intact 4) (0x33 ∷ []) ∷ [])
     ∷ lists sixth sixthListing
+    ∷ records sixthSetup sixthScript sixthRecording
     ∷ sends (ordinary 1 (0x11 ∷ 0x22 ∷ []) ∷ drawn ∷ drawn ∷ [])
     ((0x00 ∷ 0x00 ∷ 0x00 ∷ 0x00 ∷ 0x04 ∷ 0x0D ∷ 0x99 ∷ 0x00 ∷ 0x29 ∷ 0x3E ∷ 0x11 ∷ 0x22 ∷ 0x00 ∷ 0x00 ∷ 0x00 ∷ 0x00 ∷ [])
     ∷ (0x00 ∷ 0x00 ∷ 0x29 ∷ 0x3E ∷ 0x00 ∷ 0x00 ∷ 0x00 ∷ 0x00 ∷ 0x00 ∷ 0x00 ∷ 0x4A ∷ 0x97 ∷ 0xAA ∷ 0xAA ∷ 0xAA ∷ 0xAA ∷ [])

@@ -1,20 +1,21 @@
 -- What each test says of a record in a slice. Assumes nothing.
 use Prim.Native.Nat.{ℕ, _+_, _-_, _≤_, _<_, min}
-use mathlib.Core.Path.{_≡_, refl, ap, sym, subst, _∙_}
+use mathlib.Core.Path.{_≡_, refl, ap, sym, subst, subst⁻¹, _∙_}
 use mathlib.Core.Bool.{Bool, true, false, cond}
 use mathlib.Core.List.{List, [], _∷_, _++_}
 use native.Mathlib.Omega.{arith}
-use borrow.Author.Tests.{le-leb, lt-leb, leb-true, eq-eqb, ne-eqb}
+use borrow.Author.Tests.{le-leb, lt-leb, leb-true, eq-eqb, ne-eqb, eqb-true, eqb-false}
 use lib.Dec.{eqb, leb}
 use lib.ListN.{length, take, drop, getD, length-append, length-take, length-drop, drop-of-length-le}
 use lib.Seq.{take-all, take-nil, getD-take, length-take-le}
 use Rattle.block.specs.Block.{Block, placed, put}
 use Rattle.block.proofs.Laws.{fits, then, blockOf}
 use Rattle.digits.specs.Digits.{number}
+use Rattle.wire.proofs.Allowing.{both}
 use Rattle.house.specs.declared.Record.{Record}
 use Rattle.house.specs.declared.Record.the-variants.{Setup, Ordinary, Low, Draw, Packet, Gap}
 use Rattle.house.specs.declared.Place.{Place}
-use Rattle.house.specs.declared.Place.the-variants.{Start}
+use Rattle.house.specs.declared.Place.the-variants.{Start, Listing}
 use Rattle.house.specs.declared.Fault.{Fault}
 use Rattle.house.specs.declared.Fault.the-variants.{Mark, Kind, Content, Length}
 use Rattle.house.specs.declared.Judged.{Judged}
@@ -23,7 +24,7 @@ use Rattle.house.specs.declared.AtHand.{AtHand}
 use Rattle.house.specs.declared.AtHand.the-variants as A
 use Rattle.house.specs.declared.Written.{Written}
 use Rattle.house.specs.declared.Written.the-variants.{Till, NoRoom, OtherLength}
-use Rattle.house.specs.Records.{lengthOf, headOf, recordBytes, contentFits, lengthFits, ruled, judgedOf}
+use Rattle.house.specs.Records.{lengthOf, headOf, recordBytes, isRead, contentFits, lengthFits, recordOf, ruled, judgedOf}
 use Rattle.house.specs.Slices.{behindHead, atHand, dataIn, Left, writtenIn}
 
 abbrev leftOf : Written → List ℕ → Left
@@ -126,6 +127,69 @@ is-setup s = go (leb 8 (length s)) (judgedOf Start s) (of-setup s)
 -- the first record is a setup record
 pub start-setup : (s : List ℕ) (r : Record) → atHand Start s ≡ A.Whole r → r ≡ Setup
 start-setup s r is = subst IsSetup is (is-setup s)
+
+-- behind the setup the listing program reads TPs and gaps
+
+abbrev pub Read : Record → Type 0
+Read Setup = ⊥
+Read (Ordinary c n) = ⊥
+Read (Low c n) = ⊥
+Read Draw = ⊥
+Read (Packet n) = Unit {0}
+Read Gap = Unit {0}
+
+abbrev OfRead : Judged → Type 0
+OfRead (Bad f) = Unit {0}
+OfRead (Good r) = Read r
+
+abbrev IsRead : AtHand → Type 0
+IsRead A.Part = Unit {0}
+IsRead (A.Bad f) = Unit {0}
+IsRead (A.Whole r) = Read r
+
+read-kind : (k c n : ℕ) → isRead Listing k ≡ true → Read (recordOf k c n)
+read-kind k c n e = go (eqb k 4) refl
+  where
+    go : (t : Bool) → eqb k 4 ≡ t → Read (recordOf k c n)
+    go true f = subst⁻¹ (λ (x : ℕ). Read (recordOf x c n)) (eqb-true k 4 f) tt
+    go false f =
+        let b = both (leb 4 k) (leb k 5) e in
+        let low = leb-true 4 k (b .0) in
+        let high = leb-true k 5 (b .1) in
+        let other = eqb-false k 4 f in
+        let five : k ≡ 5 = omega arith in
+        subst⁻¹ (λ (x : ℕ). Read (recordOf x c n)) five tt
+
+of-read : (s : List ℕ) → OfRead (judgedOf Listing s)
+unfolding judgedOf ruled
+of-read s =
+    let k = getD s 2 0 in
+    let c = getD s 3 0 in
+    let n = number 0 (getD s 4 0 ∷ getD s 5 0 ∷ getD s 6 0 ∷ getD s 7 0 ∷ []) in
+    go (eqb (number 0 (getD s 0 0 ∷ getD s 1 0 ∷ [])) 50951) (isRead Listing k) (contentFits k c) (lengthFits k n) (recordOf k c n) (read-kind k c n)
+  where
+    go : (m t c l : Bool) (r : Record) → (t ≡ true → Read r) → OfRead (cond m (cond t (cond c (cond l (Good r) (Bad Length)) (Bad Content)) (Bad Kind)) (Bad Mark))
+    go false t c l r f = tt
+    go true false c l r f = tt
+    go true true false l r f = tt
+    go true true true false r f = tt
+    go true true true true r f = f refl
+
+is-read : (s : List ℕ) → IsRead (atHand Listing s)
+unfolding atHand
+is-read s = go (leb 8 (length s)) (judgedOf Listing s) (of-read s)
+  where
+    whole : (r : Record) (t : Bool) → Read r → IsRead (cond t (A.Whole r) A.Part)
+    whole r true e = e
+    whole r false e = tt
+
+    go : (t : Bool) (j : Judged) → OfRead j → IsRead (cond t (behindHead j (length s)) A.Part)
+    go false j h = tt
+    go true (Bad f) h = tt
+    go true (Good r) h = whole r (leb (8 + lengthOf r) (length s)) h
+
+pub listing-reads : (s : List ℕ) (r : Record) → atHand Listing s ≡ A.Whole r → Read r
+listing-reads s r is = subst IsRead is (is-read s)
 
 abbrev Says : Judged → AtHand → Type 0
 Says j A.Part = Unit {0}

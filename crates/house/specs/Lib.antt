@@ -1,3 +1,4 @@
 pub mod Records
 pub mod Setups
 pub mod Slices
+pub mod Series

@@ -3,7 +3,7 @@
 ghost use mathlib.Core.Path.{_≡_};
 ghost use Prim.Native.Nat.{_≤_};
 ghost use lib.ListN.{length};
-ghost use Rattle.list_loop.specs.Running.{Fit, Onward, Ready, Ahead};
+ghost use Rattle.list_loop.specs.Running.{Fit, Onward, Ready, Ahead, Found, Does, Listed};
 use console::BLOCKS;
 use console::FULL;
 use console::More;
@@ -30,6 +30,7 @@ struct Run {
 fn finds(first: Run, tp: &[u8], room: &mut [u8], out: &mut [u8]) -> Run
     requires { ⌜ Fit first (length (now tp)) (length (now out)) ⌝ }
     ensures { λ r. ⌜ Onward first (length (now (tp .entry))) r ⌝ }
+    ensures { λ r. ⌜ Found (now (tp .entry)) first (now (room .entry)) (now (out .entry)) r (now (room .exit)) (now (out .exit)) ⌝ }
 {
     let mut receiver = first.receiver;
     let mut at = first.at;
@@ -61,6 +62,7 @@ fn finds(first: Run, tp: &[u8], room: &mut [u8], out: &mut [u8]) -> Run
 fn turn(run: Run, said: Record, data: &[u8], room: &mut [u8], out: &mut [u8]) -> Run
     requires { ⌜ Fit run (length (now «data»)) (length (now out)) ⌝ }
     ensures { λ r. ⌜ Onward run (length (now («data» .entry))) r ⌝ }
+    ensures { λ r. ⌜ Does said (now («data» .entry)) run (now (room .entry)) (now (out .entry)) r (now (room .exit)) (now (out .exit)) ⌝ }
 {
     if let Record::Packet { length: _ } = said {
         return finds(run, data, room, out);
@@ -78,6 +80,7 @@ fn turn(run: Run, said: Record, data: &[u8], room: &mut [u8], out: &mut [u8]) ->
 fn turns(first: Run, till: usize, block: &[u8], room: &mut [u8], out: &mut [u8]) -> Run
     requires { ⌜ Ready first till (length (now block)) (length (now out)) ⌝ }
     ensures { λ r. ⌜ Ahead first till r ⌝ }
+    ensures { λ r. ⌜ Listed till (now (block .entry)) first (now (room .entry)) (now (out .entry)) r (now (room .exit)) (now (out .exit)) ⌝ }
 {
     let mut run = first;
     while run.at < FULL {

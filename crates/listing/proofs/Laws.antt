@@ -9,7 +9,7 @@ use lib.ListN.{length, take, drop, length-append, take-append-drop}
 use lib.Seq.{take-append-seam}
 use Rattle.block.specs.Block.{Block, placed, put}
 use Rattle.block.specs.Decimal.{decimal}
-use Rattle.block.proofs.Laws.{fits, length-placed, then, blockOf}
+use Rattle.block.proofs.Laws.{fits, held-placed, length-placed, then, blockOf}
 use Rattle.block.proofs.Decimals.{decimal-most}
 use Rattle.receiver.specs.declared.Find.{Find}
 use Rattle.receiver.specs.declared.Find.the-variants.{Nothing, Refused, Notice, Low, Ordinary}
@@ -135,3 +135,10 @@ module _ (t : ℕ) (f : Find) (d y : List ℕ) (at r : ℕ) (room : at + 80 ≤ 
 
   pub grows : lasts f ≡ true → at < r
   grows on = omega (arith, moved, some t f on)
+
+  -- and holds the line behind what it held
+  pub line-held : take r y ≡ take at d ++ lineOf t f
+  line-held =
+      let l = lineOf t f in
+      let h : at + length l ≤ length d = omega (arith, line-most t f) in
+      ap (λ (n : ℕ). take n y) moved ∙ ap (take (at + length l)) (bytes d y l at r h e) ∙ held-placed d at l h

@@ -5,7 +5,8 @@ ghost use Prim.Native.Nat.{_+_, _≤_, _<_};
 ghost use lib.ListN.{length};
 ghost use Rattle.house.specs.Records.{lengthOf};
 ghost use Rattle.sender.specs.Opening.{Sound};
-ghost use Rattle.send_loop.specs.Running.{Ready, Ahead};
+ghost use Rattle.sending.specs.Turn.{turnOf};
+ghost use Rattle.send_loop.specs.Running.{Ready, Ahead, Sent};
 use console::BLOCKS;
 use console::FULL;
 use console::More;
@@ -43,6 +44,7 @@ fn turn(
     requires { ⌜ run .from + 8 + length (now sp) < 18446744073709551616 ⌝ }
     ensures { λ r. ⌜ Sound (r .sender) ⌝ }
     ensures { λ r. ⌜ r .from ≡ run .from + 8 + length (now (sp .entry)) ⌝ }
+    ensures { λ r. ⌜ record { sender = r .sender; low = now (low .exit); ordinary = now (ordinary .exit); block = record { bytes = now (out .exit); at = r .at }; refused = r .refused } ≡ turnOf said (run .sender) (now (sp .entry)) (now (low .entry)) (now (ordinary .entry)) tp (record { bytes = now (out .entry); at = run .at }) ⌝ }
 {
     let s = run.sender;
     let t = sending::turn(s, said, sp, low, ordinary, tp, out, run.at);
@@ -66,8 +68,9 @@ fn turns(
     block: &[u8],
     out: &mut [u8],
 ) -> Run
-    requires { ⌜ Ready first till (length (now block)) ⌝ }
+    requires { ⌜ Ready first till (length (now block)) tp (length (now out)) ⌝ }
     ensures { λ r. ⌜ Ahead first till r ⌝ }
+    ensures { λ r. ⌜ Sent tp till (now (block .entry)) first (now (low .entry)) (now (ordinary .entry)) (now (out .entry)) r (now (low .exit)) (now (ordinary .exit)) (now (out .exit)) ⌝ }
 {
     let mut run = first;
     while run.at < FULL {
@@ -95,7 +98,7 @@ fn blocks(
     block: &mut [u8],
     out: &mut [u8],
 )
-    requires { ⌜ Ready first (input .till) (length (now block)) ⌝ }
+    requires { ⌜ Ready first (input .till) (length (now block)) tp (length (now out)) ⌝ }
 {
     let mut run = first;
     let mut gone = input.gone;

@@ -15,14 +15,10 @@ use Rattle.house.specs.Slices.{writtenIn}
 use Rattle.sender.specs.Answers.{Given, done, refusal, Left}
 use Rattle.sender.specs.Offering.{ordinaryOffered, lowOffered}
 use Rattle.sender.specs.Drawing.{drew}
+use Rattle.sender.specs.Run.{kept}
 use Rattle.sender.specs.declared.Sender.{Sender}
 
--- "A refused offer is skipped."
-abbrev pub kept : Given → Sender → Sender
-kept (done t) s = t
-kept (refusal n) s = s
-
--- document 01's number where it is refused, else 0
+-- "A refused offer is skipped" (`kept`); document 01's number where it is refused, else 0
 abbrev pub refusedBy : Given → ℕ
 refusedBy (done t) = 0
 refusedBy (refusal n) = n
@@ -39,7 +35,7 @@ pub record Drawn : Type 0 where
   pub refused : ℕ
 
 abbrev pub drawnBy : Left → Sender → ℕ → List ℕ → ℕ → Drawn
-drawnBy l s tp out at = record { sender = kept (l .given) s; block = wrote (l .given) (l .buffer) tp out at; refused = 0 }
+drawnBy l s tp out at = record { sender = kept s (l .given); block = wrote (l .given) (l .buffer) tp out at; refused = 0 }
 
 unfoldable pub drawnOf : Sender → List ℕ → List ℕ → ℕ → List ℕ → ℕ → Drawn
 drawnOf s low ordinary tp out at =
@@ -60,10 +56,10 @@ abbrev pub turnOf : Record → Sender → List ℕ → List ℕ → List ℕ →
 turnOf Setup s d low ordinary tp o = record { sender = s; low = low; ordinary = ordinary; block = o; refused = 0 }
 turnOf (Ordinary c n) s d low ordinary tp o =
     let l = ordinaryOffered s low ordinary c d in
-    record { sender = kept (l .given) s; low = low; ordinary = l .buffer; block = o; refused = refusedBy (l .given) }
+    record { sender = kept s (l .given); low = low; ordinary = l .buffer; block = o; refused = refusedBy (l .given) }
 turnOf (Low c n) s d low ordinary tp o =
     let l = lowOffered s low ordinary c d in
-    record { sender = kept (l .given) s; low = l .buffer; ordinary = ordinary; block = o; refused = refusedBy (l .given) }
+    record { sender = kept s (l .given); low = l .buffer; ordinary = ordinary; block = o; refused = refusedBy (l .given) }
 turnOf Draw s d low ordinary tp o =
     let l = drawnOf s low ordinary tp (o .bytes) (o .at) in
     record { sender = l .sender; low = low; ordinary = ordinary; block = l .block; refused = l .refused }

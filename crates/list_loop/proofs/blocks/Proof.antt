@@ -58,7 +58,7 @@ loop-again : tie.Need-loop-again Inv-loop μ-loop
 loop-again c =
     let i = c .before .before .before .before .before .before .before .before .before .before .before .before .before .before .before .before .before .before .before .loop .inv in
     let r = i .0 in
-    let a = c .before .before .before .before .before .before .before .before .before .before .before .before .before .before .turns .ensures in
+    let a = c .before .before .before .before .before .before .before .before .before .before .before .before .before .before .turns .ensures .0 in
     let m = goes-on _ _ _ _ _ (c .before .before .before .before .before .before .go-on .ensures) (c .before .before .next .given .1) in
     let fewer = c .before .before .before .before .before .before .before .before .before .before .before .before .before .before .before .before .before .before .loop-test .taken in (
       record {

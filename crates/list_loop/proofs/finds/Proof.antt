@@ -1,19 +1,20 @@
 -- `list_loop::finds` is safe and ends: a find that goes on puts a line, so the block fills. The invariant: the receiver can be called,
--- no less is held than before, and the buffers keep their lengths.
+-- no less is held than before, the buffers keep their lengths, and what is held are the lines of the calls so far.
 -- Assumes nothing.
 use Prim.Native.Nat.{_+_, _-_, _≤_}
 use mathlib.Core.Path.{_≡_, refl, sym, _∙_}
 use native.Mathlib.Omega.{arith}
 use borrow.Author.Needs.{needs}
-use borrow.Author.Tests.{not-false}
+use borrow.Author.Tests.{not-true, not-false}
 use lib.ListN.{length}
 use Rattle.receiver.specs.State.{Able}
-use Rattle.listing.proofs.Laws.{no-less, grows}
+use Rattle.listing.proofs.Laws.{no-less, grows, line-held}
+use Rattle.list_loop.proofs.Lists.{Heard, heard-none, heard-then, found-done, found-on}
 use Rattle.list_loop.proofs.finds.Statement.{statement}
 use Rattle.list_loop.proofs.finds.Tie as tie
 
 abbrev Inv-loop : tie.InvT-loop
-Inv-loop first tp room₀ out₀ receiver₀ at₀ number room out receiver at = Able receiver × ((first .at ≤ at) × ((length room ≡ length room₀) × (length out ≡ length out₀)))
+Inv-loop first tp room₀ out₀ receiver₀ at₀ number room out receiver at = Able receiver × ((first .at ≤ at) × ((length room ≡ length room₀) × ((length out ≡ length out₀) × Heard tp first room₀ out₀ receiver at room out)))
 
 abbrev μ-loop : tie.MeasureT-loop
 μ-loop first tp room₀ out₀ receiver₀ at₀ number room out receiver at = 61440 - at
@@ -22,7 +23,7 @@ add-number : tie.Need-add-number Inv-loop μ-loop
 add-number c = omega (arith, c .before .before .before .before .before .pre .count)
 
 loop-holds : tie.Need-loop-holds Inv-loop μ-loop
-loop-holds c = (c .before .before .before .before .before .pre .able, (omega arith, (refl, refl)))
+loop-holds c = (c .before .before .before .before .before .pre .able, (omega arith, (refl, (refl, heard-none _ _ _ _))))
 
 step-requires : tie.Need-step-requires Inv-loop μ-loop
 step-requires c κs = c .before .before .before .loop .inv .0
@@ -47,22 +48,25 @@ returns c =
     let s = c .before .before .before .before .before .before .before .before .before .before .before .before .before .before .before .before .before .before .before in
     let l = c .before .before .before .before .before .before .before .before .before .before .before .before .before .loop in
     let q = c .before .before .before .before .before .before .before .before .before .step in
-    let more = no-less (s .args .first .done + 1) (q .result .step .find) (l .out) _ (l .at) (q .result .at) (omega (arith, s .pre .room, l .inv .1 .1 .1, c .before .before .before .before .before .before .before .before .before .before .before .before .loop-test .taken)) (q .ensures .1) in
-    record {
-      able = q .ensures .0 .able;
-      held = omega (arith, more, l .inv .1 .0);
-      from = omega arith;
-      end = omega arith;
-      count = omega arith;
-      progress = omega (arith, more, l .inv .1 .0);
-    }
+    let more = no-less (s .args .first .done + 1) (q .result .step .find) (l .out) _ (l .at) (q .result .at) (omega (arith, s .pre .room, l .inv .1 .1 .1 .0, c .before .before .before .before .before .before .before .before .before .before .before .before .loop-test .taken)) (q .ensures .1) in
+    let line = line-held (s .args .first .done + 1) (q .result .step .find) (l .out) _ (l .at) (q .result .at) (omega (arith, s .pre .room, l .inv .1 .1 .1 .0, c .before .before .before .before .before .before .before .before .before .before .before .before .loop-test .taken)) (q .ensures .1) in (
+      record {
+        able = q .ensures .0 .able;
+        held = omega (arith, more, l .inv .1 .0);
+        from = omega arith;
+        end = omega arith;
+        count = omega arith;
+        progress = omega (arith, more, l .inv .1 .0);
+      },
+      found-done _ _ _ _ _ _ _ _ (l .inv .1 .1 .1 .1) _ _ _ _ (q .ensures .0) line _ (sym (c .before .before .lasts .ensures) ∙ not-true _ (c .before .if1 .taken)) refl refl refl refl,
+    )
 
 loop-less : tie.Need-loop-less Inv-loop μ-loop
 loop-less c =
     let s = c .before .before .before .before .before .before .before .before .before .before .before .before .before .before .before .before .before .before in
     let l = c .before .before .before .before .before .before .before .before .before .before .before .before .loop in
     let q = c .before .before .before .before .before .before .before .before .step in
-    let room : l .at + 80 ≤ length (l .out) = omega (arith, s .pre .room, l .inv .1 .1 .1, c .before .before .before .before .before .before .before .before .before .before .before .loop-test .taken) in
+    let room : l .at + 80 ≤ length (l .out) = omega (arith, s .pre .room, l .inv .1 .1 .1 .0, c .before .before .before .before .before .before .before .before .before .before .before .loop-test .taken) in
     omega (arith, c .before .before .before .before .before .before .before .before .before .before .before .loop-test .taken, grows (s .args .first .done + 1) (q .result .step .find) (l .out) _ (l .at) (q .result .at) room (q .ensures .1) (sym (c .before .lasts .ensures) ∙ not-false _ (c .if1 .left)))
 
 loop-again : tie.Need-loop-again Inv-loop μ-loop
@@ -70,8 +74,10 @@ loop-again c =
     let s = c .before .before .before .before .before .before .before .before .before .before .before .before .before .before .before .before .before .before in
     let l = c .before .before .before .before .before .before .before .before .before .before .before .before .loop in
     let q = c .before .before .before .before .before .before .before .before .step in
-    let more = no-less (s .args .first .done + 1) (q .result .step .find) (l .out) _ (l .at) (q .result .at) (omega (arith, s .pre .room, l .inv .1 .1 .1, c .before .before .before .before .before .before .before .before .before .before .before .loop-test .taken)) (q .ensures .1) in
-    (q .ensures .0 .able, (omega (arith, more, l .inv .1 .0), (omega (arith, c .before .before .before .before .before .before .before .room .given, l .inv .1 .1 .0), omega (arith, c .before .before .before .before .before .out .given, l .inv .1 .1 .1))))
+    let more = no-less (s .args .first .done + 1) (q .result .step .find) (l .out) _ (l .at) (q .result .at) (omega (arith, s .pre .room, l .inv .1 .1 .1 .0, c .before .before .before .before .before .before .before .before .before .before .before .loop-test .taken)) (q .ensures .1) in
+    let line = line-held (s .args .first .done + 1) (q .result .step .find) (l .out) _ (l .at) (q .result .at) (omega (arith, s .pre .room, l .inv .1 .1 .1 .0, c .before .before .before .before .before .before .before .before .before .before .before .loop-test .taken)) (q .ensures .1) in
+    let on = sym (c .before .lasts .ensures) ∙ not-false _ (c .if1 .left) in
+    (q .ensures .0 .able, (omega (arith, more, l .inv .1 .0), (omega (arith, c .before .before .before .before .before .before .before .room .given, l .inv .1 .1 .0), (omega (arith, c .before .before .before .before .before .out .given, l .inv .1 .1 .1 .0), heard-then _ _ _ _ _ _ _ _ (l .inv .1 .1 .1 .1) _ _ _ _ (q .ensures .0) line on))))
 
 same-length-3 : tie.Need-same-length-3 Inv-loop μ-loop
 same-length-3 c = search needs
@@ -82,15 +88,17 @@ same-length-4 c = search needs
 returns-2 : tie.Need-returns-2 Inv-loop μ-loop
 returns-2 c =
     let s = c .before .before .before .before .before .before .before in
-    let l = c .before .loop in
-    record {
-      able = l .inv .0;
-      held = l .inv .1 .0;
-      from = omega arith;
-      end = omega arith;
-      count = omega arith;
-      progress = omega (arith, s .pre .held, c .loop-test .left);
-    }
+    let l = c .before .loop in (
+      record {
+        able = l .inv .0;
+        held = l .inv .1 .0;
+        from = omega arith;
+        end = omega arith;
+        count = omega arith;
+        progress = omega (arith, s .pre .held, c .loop-test .left);
+      },
+      found-on _ _ _ _ _ _ _ _ (l .inv .1 .1 .1 .1) _ refl refl refl refl,
+    )
 
 pub finds-spec : {M : Type 1} → statement M
 finds-spec =

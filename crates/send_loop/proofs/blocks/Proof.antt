@@ -10,7 +10,7 @@ use Rattle.send_loop.proofs.blocks.Statement.{statement}
 use Rattle.send_loop.proofs.blocks.Tie as tie
 
 abbrev Inv-loop : tie.InvT-loop
-Inv-loop tp low₀ ordinary₀ block₀ out₀ run₀ gone₀ till₀ left₀ t17 t18 low ordinary block out run gone till left = Ready run till (length block) × ((length low ≡ length low₀) × ((length ordinary ≡ length ordinary₀) × ((length block ≡ length block₀) × (length out ≡ length out₀))))
+Inv-loop tp low₀ ordinary₀ block₀ out₀ run₀ gone₀ till₀ left₀ t17 t18 low ordinary block out run gone till left = Ready run till (length block) tp (length out) × ((length low ≡ length low₀) × ((length ordinary ≡ length ordinary₀) × ((length block ≡ length block₀) × (length out ≡ length out₀))))
 
 abbrev μ-loop : tie.MeasureT-loop
 μ-loop tp low₀ ordinary₀ block₀ out₀ run₀ gone₀ till₀ left₀ t17 t18 low ordinary block out run gone till left = left
@@ -64,7 +64,7 @@ loop-again : tie.Need-loop-again Inv-loop μ-loop
 loop-again c =
     let i = c .before .before .before .before .before .before .before .before .before .before .before .before .before .before .before .before .before .before .before .before .before .before .before .before .loop .inv .1 in
     let m = goes-on _ _ _ _ _ (c .before .before .before .before .before .before .go-on .ensures) (c .before .before .next .given .1) in
-    (record { sound = c .before .before .before .before .before .before .before .before .before .before .before .before .before .before .before .before .before .before .turns .ensures .sound; from = m .from; end = m .end }, (c .before .before .before .before .before .before .before .before .before .before .before .before .before .before .before .before .before .low .given ∙ i .0, (c .before .before .before .before .before .before .before .before .before .before .before .before .before .before .before .ordinary .given ∙ i .1 .0, (c .before .before .before .before .before .block .given ∙ i .1 .1 .0, c .before .before .before .before .before .before .before .before .before .before .before .before .before .out .given ∙ i .1 .1 .1))))
+    (record { sound = c .before .before .before .before .before .before .before .before .before .before .before .before .before .before .before .before .before .before .turns .ensures .0 .sound; from = m .from; end = m .end; room = omega (arith, c .before .before .before .before .before .before .before .before .before .before .before .before .before .before .before .before .before .before .before .before .before .before .before .before .loop .inv .0 .room, c .before .before .before .before .before .before .before .before .before .before .before .before .before .out .given) }, (c .before .before .before .before .before .before .before .before .before .before .before .before .before .before .before .before .before .low .given ∙ i .0, (c .before .before .before .before .before .before .before .before .before .before .before .before .before .before .before .ordinary .given ∙ i .1 .0, (c .before .before .before .before .before .block .given ∙ i .1 .1 .0, c .before .before .before .before .before .before .before .before .before .before .before .before .before .out .given ∙ i .1 .1 .1))))
 
 same-length-5 : tie.Need-same-length-5 Inv-loop μ-loop
 same-length-5 c = search needs

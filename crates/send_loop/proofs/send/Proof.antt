@@ -1,7 +1,10 @@
 -- `send_loop::send` is safe: what `open` gives is sound, and the block has its length.
 -- Assumes nothing.
-use mathlib.Core.Path.{subst}
+use mathlib.Core.Path.{ap, sym, subst, _∙_}
+use native.Mathlib.Omega.{arith}
+use Rattle.sender.specs.Answers.{givenBy}
 use Rattle.sender.specs.Opening.{SoundAnswer}
+use Rattle.sender.proofs.Opens.{opened-is}
 use borrow.Author.Needs.{needs}
 use Rattle.send_loop.proofs.send.Statement.{statement}
 use Rattle.send_loop.proofs.send.Tie as tie
@@ -57,7 +60,9 @@ slice-aggregate-blocks-3 c = search needs
 blocks-requires : tie.Need-blocks-requires
 blocks-requires c κs =
     let p = c .before .before .before .before .before .before .before .before .before .before .before .before .before .before .before .before .pre in
-    record { sound = subst SoundAnswer (c .before .before .before .before .before .before .before .before .before .before .sender .given .1) (c .before .before .before .before .before .before .before .before .before .before .before .before .«open» .ensures .1); from = p .1 .0; end = p .1 .1 }
+    let opening = c .before .before .before .before .before .before .before .before .before .before .before .before .«open» .ensures in
+    let is = c .before .before .before .before .before .before .before .before .before .before .sender .given .1 in
+    record { sound = subst SoundAnswer is (opening .1); from = p .1 .0; end = p .1 .1; room = omega (arith, opened-is _ _ _ _ _ _ (sym (opening .0) ∙ ap givenBy is) .0 .tp-most) }
 
 same-length : tie.Need-same-length
 same-length c = search needs

@@ -1,0 +1,134 @@
+-- One find more, and one record more: from what a call or a record's turn ensures to what the loops promise. Assumes nothing.
+use Prim.Native.Nat.{ℕ, _+_}
+use mathlib.Core.Path.{_≡_, refl, ap, sym, subst, subst⁻¹, _∙_}
+use mathlib.Core.Bool.{true, false}
+use mathlib.Core.Logic.{inl, inr, ⊎-elim}
+use mathlib.Core.List.{List, [], _++_, append-assoc, append-nil}
+use lib.ListN.{length, take}
+use Rattle.house.specs.Series.{unreadIn}
+use Rattle.house.specs.Slices.{atHand, dataIn}
+use Rattle.house.specs.declared.AtHand.the-variants.{Whole}
+use Rattle.house.specs.declared.Place.the-variants.{Listing}
+use Rattle.house.specs.declared.Record.{Record}
+use Rattle.house.specs.declared.Record.the-variants.{Setup, Ordinary, Low, Draw, Packet, Gap}
+use Rattle.house.proofs.Slicing.{whole-data, Read, listing-reads}
+use Rattle.listing.specs.Hearing.{Hears, nothing, then, Ends, last}
+use Rattle.listing.specs.Lines.{lineOf}
+use Rattle.receiver.specs.Call.{Gives, callOf, gapOf, lasts}
+use Rattle.receiver.specs.declared.Receiver.{Receiver}
+use Rattle.receiver.specs.declared.Step.{Step}
+use Rattle.list_loop.specs.Running.{Found, Told, Does, Standing, standing, Lists, hears, ends, gap, Listed}
+use Rattle.list_loop.specs.Running as L
+use Rattle.list_loop.specs.declared.Run.{Run}
+
+-- ---- one find more
+
+-- the TP at hand has more to give
+pub record Heard (tp : List ℕ) (first : Run) (m out : List ℕ) (r : Receiver) (at : ℕ) (m′ out′ : List ℕ) : Type 0 where
+  pub lines : List ℕ
+  pub hears : Hears tp (first .done + 1) (first .receiver) m lines r m′
+  pub held : take at out′ ≡ take (first .at) out ++ lines
+
+pub heard-none : (tp : List ℕ) (first : Run) (m out : List ℕ) → Heard tp first m out (first .receiver) (first .at) m out
+heard-none tp first m out = record { lines = []; hears = nothing; held = sym (append-nil (take (first .at) out)) }
+
+module _ (tp : List ℕ) (first : Run) (m out : List ℕ) (r : Receiver) (at : ℕ) (m₁ out₁ : List ℕ) (h : Heard tp first m out r at m₁ out₁)
+    (q : Step) (at′ : ℕ) (m₂ out₂ : List ℕ) (g : Gives (callOf r tp m₁) q tp m₂)
+    (e : take at′ out₂ ≡ take at out₁ ++ lineOf (first .done + 1) (q .find)) where
+  held-more : take at′ out₂ ≡ take (first .at) out ++ (h .lines ++ lineOf (first .done + 1) (q .find))
+  held-more =
+      e
+      ∙ ap (λ (z : List ℕ). z ++ lineOf (first .done + 1) (q .find)) (h .held)
+      ∙ append-assoc (take (first .at) out) (h .lines) (lineOf (first .done + 1) (q .find))
+
+  pub heard-then : lasts (q .find) ≡ true → Heard tp first m out (q .receiver) at′ m₂ out₂
+  heard-then on = record { lines = h .lines ++ lineOf (first .done + 1) (q .find); hears = then (h .hears) g on; held = held-more }
+
+  pub found-done : (z : Run) → lasts (q .find) ≡ false → z .receiver ≡ q .receiver → z .at ≡ at′ → z .from ≡ first .from + 8 + length tp → z .done ≡ first .done + 1
+      → Found tp first m out z m₂ out₂
+  found-done z off er ea ef ed =
+      record {
+        lines = h .lines ++ lineOf (first .done + 1) (q .find);
+        held = ap (λ (n : ℕ). take n out₂) ea ∙ held-more;
+        heard = inr (subst⁻¹ (λ (x : Receiver). Ends tp (first .done + 1) (first .receiver) m (h .lines ++ lineOf (first .done + 1) (q .find)) x m₂) er (last (h .hears) g off), (ef, ed));
+      }
+
+pub found-on : (tp : List ℕ) (first : Run) (m out : List ℕ) (r : Receiver) (at : ℕ) (m₁ out₁ : List ℕ) → Heard tp first m out r at m₁ out₁
+    → (z : Run) → z .receiver ≡ r → z .at ≡ at → z .from ≡ first .from → z .done ≡ first .done → Found tp first m out z m₁ out₁
+found-on tp first m out r at m₁ out₁ h z er ea ef ed =
+    record {
+      lines = h .lines;
+      held = ap (λ (n : ℕ). take n out₁) ea ∙ h .held;
+      heard = inl (subst⁻¹ (λ (x : Receiver). Hears tp (first .done + 1) (first .receiver) m (h .lines) x m₁) er (h .hears), (ef, ed));
+    }
+
+-- ---- a TP's record, and another
+
+pub does-found : (said : Record) (n : ℕ) (d : List ℕ) (first : Run) (m out : List ℕ) (r : Run) (m′ out′ : List ℕ) → said ≡ Packet n
+    → Found d first m out r m′ out′ → Does said d first m out r m′ out′
+does-found said n d first m out r m′ out′ e f = subst⁻¹ (λ (x : Record). Does x d first m out r m′ out′) e f
+
+pub does-told : (said : Record) (d : List ℕ) (first : Run) (m out : List ℕ) (r : Run) (m′ out′ : List ℕ) → ((n : ℕ) → said ≡ Packet n → ⊥)
+    → Told first m out r m′ out′ → Does said d first m out r m′ out′
+does-told Setup d first m out r m′ out′ other t = t
+does-told (Ordinary c n) d first m out r m′ out′ other t = t
+does-told (Low c n) d first m out r m′ out′ other t = t
+does-told Draw d first m out r m′ out′ other t = t
+does-told (Packet n) d first m out r m′ out′ other t = absurd (other n refl)
+does-told Gap d first m out r m′ out′ other t = t
+
+-- ---- one record more
+
+pub listed-none : (till : ℕ) (block : List ℕ) (r : Run) (m out : List ℕ) → Listed till block r m out r m out
+listed-none till block r m out = record { lines = []; taken = L.nothing; held = sym (append-nil (take (r .at) out)) }
+
+stands : (r : Run) (m : List ℕ) (from done : ℕ) → r .from ≡ from → r .done ≡ done
+    → _≡_ {A = Standing} (record { from = from; done = done; receiver = r .receiver; room = m }) (standing r m)
+stands r m from done ef ed =
+    ap (λ (n : ℕ). record { from = n; done = done; receiver = r .receiver; room = m }) (sym ef)
+    ∙ ap (λ (n : ℕ). record { from = r .from; done = n; receiver = r .receiver; room = m }) (sym ed)
+
+module _ (till : ℕ) (block : List ℕ) (first : Run) (m₀ out₀ : List ℕ) (run : Run) (m out : List ℕ) (l : Listed till block first m₀ out₀ run m out)
+    (r : Run) (m′ out′ : List ℕ) where
+  abbrev u : List ℕ
+  u = unreadIn block (run .from) till
+
+  held-on : (ls : List ℕ) → take (r .at) out′ ≡ take (run .at) out ++ ls → take (r .at) out′ ≡ take (first .at) out₀ ++ (l .lines ++ ls)
+  held-on ls e = e ∙ ap (λ (z : List ℕ). z ++ ls) (l .held) ∙ append-assoc (take (first .at) out₀) (l .lines) ls
+
+  by-tp : (n : ℕ) → atHand Listing u ≡ Whole (Packet n) → Found (dataIn (Packet n) u) run m out r m′ out′ → Listed till block first m₀ out₀ r m′ out′
+  by-tp n whole f =
+      record {
+        lines = l .lines ++ f .lines;
+        taken =
+            ⊎-elim
+            (λ o. subst (Lists block till (standing first m₀) (l .lines ++ f .lines)) (stands r m′ (run .from) (run .done) (o .1 .0) (o .1 .1)) (hears (l .taken) whole (o .0)))
+            (λ o. subst (Lists block till (standing first m₀) (l .lines ++ f .lines)) (stands r m′ (run .from + 8 + n) (run .done + 1) (o .1 .0 ∙ ap (λ (k : ℕ). run .from + 8 + k) (whole-data Listing u (Packet n) whole)) (o .1 .1)) (ends (l .taken) whole (o .0)))
+            (f .heard);
+        held = held-on (f .lines) (f .held);
+      }
+
+  by-gap : atHand Listing u ≡ Whole Gap → Told run m out r m′ out′ → Listed till block first m₀ out₀ r m′ out′
+  by-gap whole t =
+      let same : record { from = run .from + 8; done = run .done; receiver = gapOf (run .receiver); room = m } ≡ standing r m′ =
+      ap (λ (x : Receiver). record { from = run .from + 8; done = run .done; receiver = x; room = m }) (sym (t .receiver))
+      ∙ ap (λ (x : List ℕ). record { from = run .from + 8; done = run .done; receiver = r .receiver; room = x }) (sym (t .room))
+      ∙ stands r m′ (run .from + 8) (run .done) (t .from) (t .done) in
+      record {
+        lines = l .lines;
+        taken = subst (Lists block till (standing first m₀) (l .lines)) same (gap (l .taken) whole);
+        held = ap (λ (x : List ℕ). take (r .at) x) (t .out) ∙ ap (λ (n : ℕ). take n out) (t .at) ∙ l .held;
+      }
+
+  by-record : (said : Record) → Read said → atHand Listing u ≡ Whole said → Does said (dataIn said u) run m out r m′ out′ → Listed till block first m₀ out₀ r m′ out′
+  by-record Setup k whole d = absurd k
+  by-record (Ordinary c n) k whole d = absurd k
+  by-record (Low c n) k whole d = absurd k
+  by-record Draw k whole d = absurd k
+  by-record (Packet n) k whole d = by-tp n whole d
+  by-record Gap k whole d = by-gap whole d
+
+  pub listed-then : (said : Record) (x : List ℕ) → atHand Listing u ≡ Whole said → x ≡ dataIn said u → Does said x run m out r m′ out′
+      → Listed till block first m₀ out₀ r m′ out′
+  listed-then said x whole is d =
+      by-record said (listing-reads u said whole) whole (subst (λ (y : List ℕ). Does said y run m out r m′ out′) is d)
