@@ -375,7 +375,7 @@ c7_find c7_next(c7_receiver *receiver, const uint8_t *tp, size_t tp_length, uint
     c7_find find = find_next(receiver, tp, room);
 
     if (!is_find(find))
-        find.began = before;
+        find.began = count_and_0(receiver);
     return find;
 }
 

@@ -67,13 +67,10 @@ static inline c7_find notice_of_tp(const c7_receiver *receiver, unsigned number)
     return found(C7_FIND_NOTICE, number, 0, 0, 0, receiver->count, 0);
 }
 
-/* Tells the count before the call, which began the TP if the phase is still the one before it. */
 static inline c7_find end_of_tp(c7_receiver *receiver)
 {
-    uint32_t count = receiver->phase == C7_BEGIN ? receiver->before : receiver->count;
-
     receiver->phase = C7_BEGIN;
-    return found(C7_FIND_NONE, 0, 0, 0, 0, count, 0);
+    return found(C7_FIND_NONE, 0, 0, 0, 0, receiver->count, 0);
 }
 
 /* Behind this notice nothing more of the TP is read. */
@@ -86,7 +83,6 @@ NOT_INLINE c7_find drop_rest(c7_receiver *receiver, unsigned number, c7_place be
 
 static inline void count_tp(c7_receiver *receiver)
 {
-    receiver->before = receiver->count;
     receiver->count += receiver->count < UINT32_MAX;
 }
 

@@ -58,7 +58,6 @@ typedef struct {
     c7_phase phase;
     uint32_t stream; /* as in the first byte of a TP's first four */
     uint32_t count;  /* TPs of its length and stream since opening */
-    uint32_t before; /* the count before the begun TP */
     uint32_t at;     /* next payload byte of the begun TP */
     c7_state state;
     uint32_t offset; /* that the begun TP announces */
