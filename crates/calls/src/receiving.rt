@@ -69,9 +69,14 @@ fn put_next<'a>(
     block::put(out, next, b"\n")
 }
 
-// What a find carries; the TP number and the place are not told yet.
+// What a find carries: the TP number and the place at which it began, and the total repaired.
 fn put_about(out: &mut [u8], at: usize, about: About) -> usize {
-    let mut next = block::put(out, freed(out, at), b"about 0 0 ");
+    let place = about.at;
+    let mut next = block::put(out, freed(out, at), b"about ");
+    next = block::put_number(out, next, place.stamp.number);
+    next = block::put(out, next, b" ");
+    next = block::put_number(out, next, place.at as u64);
+    next = block::put(out, next, b" ");
     next = block::put_number(out, next, about.repaired);
     block::put(out, next, b"\n")
 }

@@ -12,7 +12,7 @@ use Rattle.wire.specs.Wire.{ep}
 use Rattle.wire.proofs.Laws.{ep-length}
 use Rattle.sender.specs.Offering.{later, pieces}
 use Rattle.receiver.specs.declared.kind.Kind.the-variants.{Middle}
-use Rattle.receiver.specs.Low.{wire}
+use Rattle.downlink.proofs.plain.Low.{wire}
 use Rattle.downlink.specs.Damage.{Item, filler, packet, HeadNear, EpsNear}
 use Rattle.downlink.specs.Hearing.{Packet}
 use Rattle.downlink.specs.Due.{bodies, size}

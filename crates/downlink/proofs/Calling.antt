@@ -1,19 +1,20 @@
 -- Calls until the TP ends, of any number of TPs, give what the definition of whole TPs lists: the receiver's own theorem on its life,
 -- for the calls of the statement. Assumes nothing.
-use mathlib.Core.Path.{_≡_, refl, sym, ap₂, _∙_, subst, subst⁻¹}
+use mathlib.Core.Path.{_≡_, refl, sym, ap, ap₂, _∙_, subst, subst⁻¹}
 use mathlib.Core.Bool.{Bool, true, false, _&&_}
-use mathlib.Core.List.{List, [], _∷_, _++_, append-nil}
+use mathlib.Core.List.{List, [], _∷_, _++_, append-nil, map, map-append}
 use Prim.Native.Nat.{ℕ}
 use native.Mathlib.Omega.{arith}
 use lib.Dec.{leb}
 use borrow.Author.Tests.{le-leb, leb-true}
+use Rattle.receiver.specs.declared.About.{About}
 use Rattle.receiver.specs.declared.Find.{Find}
 use Rattle.receiver.specs.declared.Find.the-variants as F
 use Rattle.receiver.specs.Join.{Finding, notice, low, ordinary}
-use Rattle.receiver.specs.Low.{wire}
+use Rattle.receiver.specs.Low.{wire, tagOf}
 use Rattle.receiver.specs.declared.Receiver.{Receiver}
 use Rattle.receiver.specs.State.{Able}
-use Rattle.receiver.specs.Call.{dataOf, gapOf}
+use Rattle.receiver.specs.Call.{dataOf, gapOf, stampsOf}
 use Rattle.receiver.specs.Tp.{Input, tpIn, gapTold}
 use Rattle.receiver.proofs.Ending.{Ended}
 use Rattle.receiver.proofs.Rest.{saying}
@@ -21,49 +22,65 @@ use Rattle.receiver.proofs.Called as C
 use Rattle.receiver.proofs.Listening as N
 use Rattle.downlink.specs.Hearing.{Listener, Called, onward, ends, Either, Calls, toldOfGap, Hears, Packet, inTp, handedOut}
 use Rattle.downlink.specs.Hearing as H
+use Rattle.downlink.proofs.plain.Low as L
+use Rattle.downlink.proofs.plain.Join as J
+use Rattle.downlink.proofs.Strip.{finding}
 use Rattle.downlink.proofs.Joins.{packets, packets-append}
 use Rattle.downlink.proofs.Listen.{lowsOf, lows-append}
 
 -- a find, as the definition of a whole TP tells it
-abbrev findingOf : Find → ℕ → List ℕ → List (Finding wire)
-findingOf F.Nothing e d = []
-findingOf F.Refused e d = []
-findingOf (F.Notice n) e d = notice n ∷ []
-findingOf (F.Low c start n) e d = low (record { content = c; repaired = e }) d ∷ []
-findingOf (F.Ordinary c n) e d = ordinary (record { content = c; repaired = e }) d ∷ []
+abbrev findingOf : Find → About → List ℕ → List (Finding wire)
+findingOf F.Nothing a d = []
+findingOf F.Refused a d = []
+findingOf (F.Notice n) a d = notice n (a .at) ∷ []
+findingOf (F.Low c start n) a d = low (tagOf c (a .repaired) (a .at)) d ∷ []
+findingOf (F.Ordinary c n) a d = ordinary (tagOf c (a .repaired) (a .at)) d ∷ []
 
 abbrev pub findings : List ℕ → List Called → List (Finding wire)
 findings tp [] = []
-findings tp (c ∷ cs) = findingOf (c .step .find) (c .step .about .repaired) (dataOf (c .step .find) tp (c .room)) ++ findings tp cs
+findings tp (c ∷ cs) = findingOf (c .step .find) (c .step .about) (dataOf (c .step .find) tp (c .room)) ++ findings tp cs
 
--- ---- by sort
+-- ---- by sort, of plain finds
 
-low-of : (f : Find) (e : ℕ) (d : List ℕ) → H.low f d ≡ lowsOf (findingOf f e d)
-low-of F.Nothing e d = refl
-low-of F.Refused e d = refl
-low-of (F.Notice n) e d = refl
-low-of (F.Low c start n) e d = refl
-low-of (F.Ordinary c n) e d = refl
+abbrev lowly : List (Finding wire) → List Packet
+lowly fs = lowsOf (map finding fs)
 
-ordinary-of : (f : Find) (e : ℕ) (d : List ℕ) → H.ordinary f d ≡ packets wire (findingOf f e d)
-ordinary-of F.Nothing e d = refl
-ordinary-of F.Refused e d = refl
-ordinary-of (F.Notice n) e d = refl
-ordinary-of (F.Low c start n) e d = refl
-ordinary-of (F.Ordinary c n) e d = refl
+abbrev ordinarily : List (Finding wire) → List Packet
+ordinarily fs = packets L.wire (map finding fs)
 
-pub lows-in : (tp : List ℕ) (cs : List Called) → inTp H.low tp cs ≡ lowsOf (findings tp cs)
+lowly-append : (fs gs : List (Finding wire)) → lowly (fs ++ gs) ≡ lowly fs ++ lowly gs
+lowly-append fs gs = ap lowsOf (map-append finding fs gs) ∙ lows-append (map finding fs) (map finding gs)
+
+ordinarily-append : (fs gs : List (Finding wire)) → ordinarily (fs ++ gs) ≡ ordinarily fs ++ ordinarily gs
+ordinarily-append fs gs = ap (packets L.wire) (map-append finding fs gs) ∙ packets-append L.wire (map finding fs) (map finding gs)
+
+low-of : (f : Find) (a : About) (d : List ℕ) → H.low f d ≡ lowly (findingOf f a d)
+low-of F.Nothing a d = refl
+low-of F.Refused a d = refl
+low-of (F.Notice n) a d = refl
+low-of (F.Low c start n) a d = refl
+low-of (F.Ordinary c n) a d = refl
+
+ordinary-of : (f : Find) (a : About) (d : List ℕ) → H.ordinary f d ≡ ordinarily (findingOf f a d)
+ordinary-of F.Nothing a d = refl
+ordinary-of F.Refused a d = refl
+ordinary-of (F.Notice n) a d = refl
+ordinary-of (F.Low c start n) a d = refl
+ordinary-of (F.Ordinary c n) a d = refl
+
+lows-in : (tp : List ℕ) (cs : List Called) → inTp H.low tp cs ≡ lowly (findings tp cs)
 lows-in tp [] = refl
 lows-in tp (c ∷ cs) =
     let d = dataOf (c .step .find) tp (c .room) in
-    ap₂ (λ (a b : List Packet). a ++ b) (low-of (c .step .find) (c .step .about .repaired) d) (lows-in tp cs) ∙ sym (lows-append (findingOf (c .step .find) (c .step .about .repaired) d) (findings tp cs))
+    ap₂ (λ (a b : List Packet). a ++ b) (low-of (c .step .find) (c .step .about) d) (lows-in tp cs)
+    ∙ sym (lowly-append (findingOf (c .step .find) (c .step .about) d) (findings tp cs))
 
-pub ordinaries-in : (tp : List ℕ) (cs : List Called) → inTp H.ordinary tp cs ≡ packets wire (findings tp cs)
+ordinaries-in : (tp : List ℕ) (cs : List Called) → inTp H.ordinary tp cs ≡ ordinarily (findings tp cs)
 ordinaries-in tp [] = refl
 ordinaries-in tp (c ∷ cs) =
     let d = dataOf (c .step .find) tp (c .room) in
-    ap₂ (λ (a b : List Packet). a ++ b) (ordinary-of (c .step .find) (c .step .about .repaired) d) (ordinaries-in tp cs)
-    ∙ sym (packets-append wire (findingOf (c .step .find) (c .step .about .repaired) d) (findings tp cs))
+    ap₂ (λ (a b : List Packet). a ++ b) (ordinary-of (c .step .find) (c .step .about) d) (ordinaries-in tp cs)
+    ∙ sym (ordinarily-append (findingOf (c .step .find) (c .step .about) d) (findings tp cs))
 
 abbrev pub allFindings : List Input → List (List Called) → List (Finding wire)
 allFindings [] css = []
@@ -71,28 +88,28 @@ allFindings (tpIn tp ∷ xs) [] = []
 allFindings (tpIn tp ∷ xs) (cs ∷ css) = findings tp cs ++ allFindings xs css
 allFindings (gapTold ∷ xs) css = allFindings xs css
 
-pub lows-out : (xs : List Input) (css : List (List Called)) → handedOut H.low xs css ≡ lowsOf (allFindings xs css)
+pub lows-out : (xs : List Input) (css : List (List Called)) → handedOut H.low xs css ≡ lowsOf (map finding (allFindings xs css))
 lows-out [] css = refl
 lows-out (tpIn tp ∷ xs) [] = refl
 lows-out (tpIn tp ∷ xs) (cs ∷ css) =
-    ap₂ (λ (a b : List Packet). a ++ b) (lows-in tp cs) (lows-out xs css) ∙ sym (lows-append (findings tp cs) (allFindings xs css))
+    ap₂ (λ (a b : List Packet). a ++ b) (lows-in tp cs) (lows-out xs css) ∙ sym (lowly-append (findings tp cs) (allFindings xs css))
 lows-out (gapTold ∷ xs) css = lows-out xs css
 
-pub ordinaries-out : (xs : List Input) (css : List (List Called)) → handedOut H.ordinary xs css ≡ packets wire (allFindings xs css)
+pub ordinaries-out : (xs : List Input) (css : List (List Called)) → handedOut H.ordinary xs css ≡ packets L.wire (map finding (allFindings xs css))
 ordinaries-out [] css = refl
 ordinaries-out (tpIn tp ∷ xs) [] = refl
 ordinaries-out (tpIn tp ∷ xs) (cs ∷ css) =
-    ap₂ (λ (a b : List Packet). a ++ b) (ordinaries-in tp cs) (ordinaries-out xs css) ∙ sym (packets-append wire (findings tp cs) (allFindings xs css))
+    ap₂ (λ (a b : List Packet). a ++ b) (ordinaries-in tp cs) (ordinaries-out xs css) ∙ sym (ordinarily-append (findings tp cs) (allFindings xs css))
 ordinaries-out (gapTold ∷ xs) css = ordinaries-out xs css
 
 -- ---- the receiver's words for it
 
-saying-is : (cap : ℕ) (f : Find) (e : ℕ) (d : List ℕ) → saying cap f e d ≡ findingOf f e d
-saying-is cap F.Nothing e d = refl
-saying-is cap F.Refused e d = refl
-saying-is cap (F.Notice n) e d = refl
-saying-is cap (F.Low c start n) e d = refl
-saying-is cap (F.Ordinary c n) e d = refl
+saying-is : (cap : ℕ) (f : Find) (a : About) (d : List ℕ) → saying cap f a d ≡ findingOf f a d
+saying-is cap F.Nothing a d = refl
+saying-is cap F.Refused a d = refl
+saying-is cap (F.Notice n) a d = refl
+saying-is cap (F.Low c start n) a d = refl
+saying-is cap (F.Ordinary c n) a d = refl
 
 both : (a b : Bool) → a && b ≡ true → (a ≡ true) × (b ≡ true)
 both true true e = (refl, refl)
@@ -117,7 +134,7 @@ not-ended (F.Low c start n) e q = omega arith
 not-ended (F.Ordinary c n) e q = omega arith
 
 calls-are : (tp : List ℕ) (cs : List Called) (x : Listener) → Calls tp x cs
-    → C.Calls tp (x .receiver) (x .room) (findings tp cs) (onward x cs .receiver) (onward x cs .room)
+    → C.Calls stampsOf tp (x .receiver) (x .room) (findings tp cs) (onward x cs .receiver) (onward x cs .room)
 calls-are tp [] x calls = absurd calls
 calls-are tp (c ∷ cs) x (gives, then) = go (ends (c .step .find)) refl then (λ z. calls-are tp cs (record { receiver = c .step .receiver; room = c .room }) z)
   where
@@ -127,19 +144,19 @@ calls-are tp (c ∷ cs) x (gives, then) = go (ends (c .step .find)) refl then (�
     d : List ℕ
     d = dataOf (c .step .find) tp (c .room)
 
-    said : saying (x .receiver .limit) (c .step .find) (c .step .about .repaired) d ≡ findingOf (c .step .find) (c .step .about .repaired) d
-    said = saying-is (x .receiver .limit) (c .step .find) (c .step .about .repaired) d
+    said : saying (x .receiver .limit) (c .step .find) (c .step .about) d ≡ findingOf (c .step .find) (c .step .about) d
+    said = saying-is (x .receiver .limit) (c .step .find) (c .step .about) d
 
     go : (t : Bool) → ends (c .step .find) ≡ t → Either t (cs ≡ []) (Calls tp x′ cs)
-        → (Calls tp x′ cs → C.Calls tp (x′ .receiver) (x′ .room) (findings tp cs) (onward x′ cs .receiver) (onward x′ cs .room))
-        → C.Calls tp (x .receiver) (x .room) (findingOf (c .step .find) (c .step .about .repaired) d ++ findings tp cs) (onward x′ cs .receiver) (onward x′ cs .room)
+        → (Calls tp x′ cs → C.Calls stampsOf tp (x′ .receiver) (x′ .room) (findings tp cs) (onward x′ cs .receiver) (onward x′ cs .room))
+        → C.Calls stampsOf tp (x .receiver) (x .room) (findingOf (c .step .find) (c .step .about) d ++ findings tp cs) (onward x′ cs .receiver) (onward x′ cs .room)
     go true e none ih =
-        subst⁻¹ (λ (ys : List Called). C.Calls tp (x .receiver) (x .room) (findingOf (c .step .find) (c .step .about .repaired) d ++ findings tp ys) (onward x′ ys .receiver) (onward x′ ys .room)) none
-        (subst (λ (fs : List (Finding wire)). C.Calls tp (x .receiver) (x .room) fs (c .step .receiver) (c .room)) (said ∙ sym (append-nil (findingOf (c .step .find) (c .step .about .repaired) d)))
-        (C.last gives (ended (c .step .find) e)))
+        subst⁻¹ (λ (ys : List Called). C.Calls stampsOf tp (x .receiver) (x .room) (findingOf (c .step .find) (c .step .about) d ++ findings tp ys) (onward x′ ys .receiver) (onward x′ ys .room)) none
+        (subst (λ (fs : List (Finding wire)). C.Calls stampsOf tp (x .receiver) (x .room) fs (c .step .receiver) (c .room)) (said ∙ sym (append-nil (findingOf (c .step .find) (c .step .about) d)))
+        (C.last (C.own (x .receiver) tp (x .room) (c .step) (c .room) gives) (ended (c .step .find) e)))
     go false e more ih =
-        subst (λ (fs : List (Finding wire)). C.Calls tp (x .receiver) (x .room) (fs ++ findings tp cs) (onward x′ cs .receiver) (onward x′ cs .room)) said
-        (C.more gives (not-ended (c .step .find) e) (ih more))
+        subst (λ (fs : List (Finding wire)). C.Calls stampsOf tp (x .receiver) (x .room) (fs ++ findings tp cs) (onward x′ cs .receiver) (onward x′ cs .room)) said
+        (C.more (C.own (x .receiver) tp (x .room) (c .step) (c .room) gives) (not-ended (c .step .find) e) (ih more))
 
 -- the receiver can be called again
 pub able-on : (tp : List ℕ) (cs : List Called) (x : Listener) → Calls tp x cs → Able (onward x cs .receiver)

@@ -8,7 +8,7 @@ use native.Mathlib.Omega.{arith}
 use native.Mathlib.Decide.{decLe}
 use lib.ListN.{length, drop, take, length-append, length-take, take-append-drop}
 use lib.Seq.{take-nil, drop-nil, take-append-le, take-append-add}
-use Rattle.receiver.specs.Frame.{Code, Frame, lost, idle, head, body, Event, fed, Out, whole, events}
+use Rattle.downlink.proofs.plain.Frame.{Code, Frame, lost, idle, head, body, Event, fed, Out, whole, events}
 use Rattle.downlink.proofs.Within as I
 use Rattle.downlink.proofs.Within.{kept, too-early, too-late, beyond}
 use Rattle.downlink.proofs.Window.{Cell, bytes, from-mark, Tracks, tracks-left, flat, heard, heard-lost}

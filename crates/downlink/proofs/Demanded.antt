@@ -8,10 +8,15 @@ use native.Mathlib.Omega.{arith}
 use lib.Dec.{leb}
 use lib.ListN.{length, take, drop}
 use borrow.Author.Tests.{le-leb, lt-leb, leb-true}
-use Rattle.receiver.specs.Frame.{lost}
-use Rattle.receiver.specs.Join.{free}
-use Rattle.receiver.specs.Low.{wire}
-use Rattle.receiver.specs.Tp.{Input, tpIn, gapTold, listingAll}
+use Rattle.downlink.proofs.plain.Frame.{lost}
+use Rattle.downlink.proofs.plain.Join.{free}
+use Rattle.downlink.proofs.plain.Low.{wire}
+use Rattle.downlink.proofs.Strip.{finding}
+use Rattle.downlink.proofs.Stripped.{all-listed}
+use Rattle.receiver.specs.Frame as R
+use Rattle.receiver.specs.Join as J
+use Rattle.receiver.specs.Tp.{Input, tpIn, gapTold}
+use Rattle.downlink.proofs.plain.Tp.{listingAll}
 use Rattle.receiver.proofs.Listening.{from-opening}
 use Rattle.sender.specs.Run.{Tp, Deed, refused, took, tookLow, drew, tps, left, undrawn}
 use Rattle.downlink.specs.Hearing.{Called, Hears, tpsIn, handedOut}
@@ -112,10 +117,12 @@ module _ (l : Link) where
     abbrev xs : List Input
     xs = heardOf arrived told 0 rs
 
-    found-is : allFindings xs calls ≡ listingAll (record { size = size; stream = l .stream; room = room }) (record { frame = lost; held = free }) xs .0
+    found-is : map finding (allFindings xs calls) ≡ listingAll (record { size = size; stream = l .stream; room = room }) (record { frame = lost; held = free }) xs .0
     found-is =
-        sym (from-opening size (l .stream) (l .listener .room) (l .listener .receiver) (l .listens)
-        (lives xs calls (l .listener) (l .listens .able) hears .1))
+        ap (map finding)
+        (sym (from-opening size (l .stream) (l .listener .room) (l .listener .receiver) (l .listens)
+        (lives xs calls (l .listener) (l .listens .able) hears .1)))
+        ∙ sym (ap (λ y. y .0) (all-listed (record { size = size; stream = l .stream; room = room }) 0 (record { frame = R.lost; held = J.free }) xs))
 
     -- whichever TPs arrived; the test may be said in other words
     pub right : (t : ℕ → ℕ → Bool) → ((a b : ℕ) → a < b → through arrived 0 (carries ts) a b ≡ t a b) → ((a b : ℕ) → t a b ≡ true → b ≤ total (carries ts))

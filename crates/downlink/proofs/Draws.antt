@@ -17,7 +17,7 @@ use Rattle.wire.proofs.Laws.{ep-length}
 use Rattle.sender.specs.Answers as A
 use Rattle.sender.specs.Drawing.{overwritten, leave, present, part, fill, lacking, stream, owedAfter, restAfter, offset, Draw, drawWith, drawOf, drawBy, took}
 use Rattle.sender.specs.Drawing as D
-use Rattle.receiver.specs.Low.{wire}
+use Rattle.downlink.proofs.plain.Low.{wire}
 use Rattle.sender.specs.Run.{draw, World, Tp, drew, next, deed, leaving, filling}
 use Rattle.sender.specs.Run as N
 use Rattle.downlink.specs.Damage.{fillers}

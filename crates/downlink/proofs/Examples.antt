@@ -118,7 +118,7 @@ link =
       stream = 0;
       piece = 65535;
       world = world;
-      listener = record { receiver = freshOf 16 0 64; room = room };
+      listener = record { receiver = freshOf 16 0 64 0; room = room };
       calls = calls;
       got = drawn (tps (deeds world calls));
       sends = refl;

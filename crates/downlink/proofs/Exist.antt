@@ -12,7 +12,8 @@ use borrow.Author.Tests.{eq-eqb, eqb-true}
 use Rattle.receiver.specs.declared.Find.the-variants as F
 use Rattle.receiver.specs.declared.Receiver.{Receiver}
 use Rattle.receiver.specs.State.{Able}
-use Rattle.receiver.specs.Call.{Gave, Gives, callOf, stepped}
+use Rattle.receiver.specs.Call.{Gave, Gives, callAs, callOf, stepped}
+use Rattle.receiver.specs.Place.{ownOf, startOf}
 use Rattle.receiver.specs.Tp.{Input, tpIn, gapTold}
 use Rattle.receiver.proofs.Listening.{opened-fresh}
 use Rattle.receiver.proofs.Lasting.{Lasts, call-lasts}
@@ -70,9 +71,9 @@ module _ (tp : List ℕ) (small : Bytes tp) where
       go false more ih = ih more
 
   six : (x : Listener) → Able (x .receiver) → length (x .room) ≡ x .receiver .limit → eqb (length tp) (x .receiver .size) ≡ false → (cs : List Called) × Calls tp x cs
-  unfolding callOf stepped
+  unfolding callOf callAs stepped
   six x able full e = (
-    record { step = record { receiver = x .receiver; find = F.Notice 6; about = record { repaired = 0 } }; room = x .room } ∷ [],
+    record { step = record { receiver = x .receiver; find = F.Notice 6; about = record { repaired = 0; at = startOf (ownOf (x .receiver .count)) } }; room = x .room } ∷ [],
     (record { same = sym (rw (eq-eqb (length (x .room)) (x .receiver .limit) full, e) refl); able = able }, refl),
   )
 

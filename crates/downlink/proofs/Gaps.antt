@@ -9,8 +9,8 @@ use lib.Dec.{leb}
 use lib.ListN.{length, drop, take, length-append}
 use lib.Seq.{drop-drop, drop-at, take-at, take-nil}
 use borrow.Author.Tests.{leb-true}
-use Rattle.receiver.specs.Frame.{Code, Frame, lost, Event, gap, Out}
-use Rattle.receiver.specs.Join.{free}
+use Rattle.downlink.proofs.plain.Frame.{Code, Frame, lost, Event, gap, Out}
+use Rattle.downlink.proofs.plain.Join.{free}
 use Rattle.downlink.proofs.Within.{within, picked, inside, merged}
 use Rattle.downlink.proofs.Window.{Cell, before, bytes, flat, part, heard}
 use Rattle.downlink.proofs.Trains.{stream}

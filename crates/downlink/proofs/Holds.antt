@@ -15,7 +15,7 @@ use Rattle.wire.specs.Wire.{ep}
 use Rattle.sender.specs.declared.Sender.{Sender}
 use Rattle.sender.specs.Answers.{lent}
 use Rattle.sender.specs.Offering.{later, pieces, spBytes, no, put, known, wantOrdinary, wantLow, putOrdinary, putLow, ordinaryOffered, lowOffered}
-use Rattle.receiver.specs.Low.{wire}
+use Rattle.downlink.proofs.plain.Low.{wire}
 use Rattle.sender.specs.Run.{ordinary, low, World, Deed, refused, took, tookLow, next, deed}
 use Rattle.sender.specs.Run as N
 use Rattle.downlink.specs.Hearing.{Packet}

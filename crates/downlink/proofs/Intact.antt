@@ -16,7 +16,7 @@ use Rattle.wire.proofs.Laws.{word-length, ep-length, tp-header-length}
 use Rattle.sender.specs.Answers.{done}
 use Rattle.sender.specs.Opening.{opened}
 use Rattle.sender.specs.Drawing.{present, part, offset}
-use Rattle.receiver.specs.Low.{wire}
+use Rattle.downlink.proofs.plain.Low.{wire}
 use Rattle.sender.specs.Run.{Call, World, Tp, tps, deeds, left, undrawn}
 use Rattle.downlink.specs.Damage.{Item, filler, packet, items, eps, allEps, drawn, ordinaryOf, Bytes, Near, NearEnd, HeadNear, EpsNear, LlepsNear, TpNear, TpsNear, Damaged}
 use Rattle.downlink.specs.Hearing.{Packet}

@@ -11,8 +11,8 @@ use lib.Dec.{leb}
 use lib.ListN.{length, drop, take, length-append}
 use borrow.Author.Tests.{le-leb, eq-eqb}
 use Rattle.receiver.specs.declared.kind.Kind.the-variants.{Fill, Complete, First, Middle, Last}
-use Rattle.receiver.specs.Frame.{Code, lost, Event}
-use Rattle.receiver.specs.Join.{Held, free, held, Took, goes-on, fits, further, finds}
+use Rattle.downlink.proofs.plain.Frame.{Code, lost, Event}
+use Rattle.downlink.proofs.plain.Join.{Held, free, held, Took, goes-on, fits, further, finds}
 use Rattle.downlink.proofs.Within.{keep, within, total, kept, too-early, too-late, beyond, all-in, within-append}
 use Rattle.downlink.proofs.Window.{Cell, flat, heard}
 use Rattle.downlink.proofs.Trains.{Ep, stream, ep-event, ep-events}

@@ -8,8 +8,8 @@ use lib.Dec.{leb, eqb}
 use lib.ListN.{length}
 use Rattle.receiver.specs.declared.kind.Kind.{Kind}
 use Rattle.receiver.specs.declared.kind.Kind.the-variants.{Fill, Reserved, Complete, First, Middle, Last}
-use Rattle.receiver.specs.Frame.{Code, Event, entered, closed}
-use Rattle.receiver.specs.Join.{Finding, notice, low, ordinary, Held, free, held, Took, broken, goes-on, meets, finish, fits, further, admit, grown, take-in, holding, listed, finds}
+use Rattle.downlink.proofs.plain.Frame.{Code, Event, entered, closed}
+use Rattle.downlink.proofs.plain.Join.{Finding, notice, low, ordinary, Held, free, held, Took, broken, goes-on, meets, finish, fits, further, admit, grown, take-in, holding, listed, finds}
 use Rattle.downlink.proofs.Trains.{Ep, feeds, entering, ep-event, ep-events}
 use Rattle.downlink.proofs.Cut.{opening}
 

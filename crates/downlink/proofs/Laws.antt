@@ -16,7 +16,7 @@ use Rattle.sender.specs.Opening.{opened}
 use Rattle.sender.specs.Drawing as D
 use Rattle.sender.specs.Drawing.{overwritten, leave, present, part, offset}
 use Rattle.sender.specs.Run.{Call, draw, World, Tp, drew, leaving, deed, deeds, left, undrawn, tps}
-use Rattle.receiver.specs.Low.{wire}
+use Rattle.downlink.proofs.plain.Low.{wire}
 use Rattle.downlink.specs.Hearing.{Packet}
 use Rattle.downlink.specs.Damage.{Item, eps, allEps, items, drawn, ordinaryOf}
 use Rattle.downlink.specs.Due.{lowsTaken}

@@ -1,3 +1,5 @@
+-- reading without places, over which the demands are proved; nobody has to believe it: Stripped ties it to the receiver's own
+pub mod plain
 -- the window lemma: reading any stretch of a stream of EPs from out of step; and gaps in the middle
 pub mod Within
 pub mod Window
@@ -25,6 +27,9 @@ pub mod Streams
 pub mod See
 pub mod Listen
 pub mod Calling
+-- the receiver's own reading, stripped of places
+pub mod Strip
+pub mod Stripped
 -- demand 3
 pub mod Own
 pub mod Stretch

@@ -12,10 +12,11 @@ use Rattle.sender.specs.Drawing as D
 use Rattle.receiver.specs.declared.kind.Kind.{Kind}
 use Rattle.receiver.specs.declared.kind.Kind.the-variants.{Fill, Reserved, Complete, First, Middle, Last}
 use Rattle.wire.specs.declared.Header.{Header}
-use Rattle.receiver.specs.Frame.{Frame, Event, lose, gap, opened, entered, fed, closed, Out}
-use Rattle.receiver.specs.Join.{Finding, notice, low, ordinary, Held, free, held, Took, broken, goes-on, meets, handed, finish, fits, further, admit, take-in, listed, holding, finds}
-use Rattle.receiver.specs.Low.{Tag, wire, beginOf, joinOf}
-use Rattle.receiver.specs.Tp.{Setting, Heard, Stand, Input, tpIn, gapTold, inputOf, listing, listingOf, listingAll}
+use Rattle.downlink.proofs.plain.Frame.{Frame, Event, lose, gap, opened, entered, fed, closed, Out}
+use Rattle.downlink.proofs.plain.Join.{Finding, notice, low, ordinary, Held, free, held, Took, broken, goes-on, meets, handed, finish, fits, further, admit, take-in, listed, holding, finds}
+use Rattle.downlink.proofs.plain.Low.{Tag, wire, beginOf, joinOf}
+use Rattle.receiver.specs.Tp.{Setting, Input, tpIn, gapTold}
+use Rattle.downlink.proofs.plain.Tp.{Heard, Stand, inputOf, listing, listingOf, listingAll}
 use Rattle.sender.specs.Run.{Tp}
 use Rattle.downlink.specs.Damage.{TpNear, TpsNear}
 use Rattle.downlink.specs.Hearing.{Packet}

@@ -6,7 +6,7 @@ use lib.ListN.{length, replicate}
 use Rattle.wire.specs.Wire.{ep, tpHeader}
 use Rattle.sender.specs.Offering.{pieces}
 use Rattle.sender.specs.Drawing.{present, part, offset}
-use Rattle.receiver.specs.Low.{wire}
+use Rattle.downlink.proofs.plain.Low.{wire}
 use Rattle.sender.specs.Run.{Tp, Deed, refused, took, tookLow, drew, tps}
 use Rattle.downlink.specs.Damage.{Item, filler, packet, fillers, items, eps}
 use Rattle.downlink.specs.Hearing.{Packet}

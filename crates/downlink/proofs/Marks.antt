@@ -11,7 +11,7 @@ use lib.Seq.{take-append-le, drop-nil}
 use Rattle.wire.specs.Wire.{ep}
 use Rattle.wire.proofs.Laws.{ep-length}
 use Rattle.sender.specs.Drawing.{headAt, sizeIn, span, restAfter}
-use Rattle.receiver.specs.Low.{wire}
+use Rattle.downlink.proofs.plain.Low.{wire}
 use Rattle.downlink.proofs.Window.{bytes, before, bytes-append}
 use Rattle.downlink.proofs.Trains.{plain, bytes-plain}
 use Rattle.downlink.proofs.Heads.{size-in, head-at}

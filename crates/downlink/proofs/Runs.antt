@@ -14,7 +14,7 @@ use Rattle.sender.specs.Offering.{wantOrdinary, ordinaryOffered, wantLow, lowOf
 use Rattle.sender.specs.Drawing as D
 use Rattle.sender.specs.Opening.{empty, fresh, opened}
 use Rattle.sender.proofs.Opens.{opened-is}
-use Rattle.receiver.specs.Low.{wire}
+use Rattle.downlink.proofs.plain.Low.{wire}
 use Rattle.sender.specs.Run.{Call, ordinary, low, draw, lending, World, Deed, refused, took, tookLow, drew, lentOthers, ownLengths, next, deed, deeds, left, undrawn}
 use Rattle.downlink.specs.Hearing.{Packet}
 use Rattle.downlink.specs.Demand.{Fit}

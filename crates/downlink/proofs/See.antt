@@ -20,12 +20,13 @@ use Rattle.wire.proofs.Laws.{word-length, ep-length, tp-header-length, tp-word-
 use Rattle.sender.specs.Drawing as D
 use Rattle.sender.specs.Drawing.{offset}
 use Rattle.receiver.specs.declared.low.Llep.the-variants.{Whole}
-use Rattle.receiver.specs.Frame.{Frame, Out}
-use Rattle.receiver.specs.Forecast.{Start, start, outset}
-use Rattle.receiver.specs.Join.{Finding, low}
-use Rattle.receiver.specs.Low.{wire, beginOf, counting, sized, llep, Part, ahead, walk, lowPart}
-use Rattle.receiver.specs.Low as L
-use Rattle.receiver.specs.Tp.{Heard, lowPartIf, behind, worded, heard}
+use Rattle.downlink.proofs.plain.Frame.{Frame, Out}
+use Rattle.downlink.proofs.plain.Forecast.{Start, start, outset}
+use Rattle.downlink.proofs.plain.Join.{Finding, low}
+use Rattle.receiver.specs.Low.{ended, counting, sized, llep}
+use Rattle.downlink.proofs.plain.Low.{wire, beginOf, Part, ahead, walk, lowPart}
+use Rattle.downlink.proofs.plain.Low as L
+use Rattle.downlink.proofs.plain.Tp.{Heard, lowPartIf, behind, worded, heard}
 use Rattle.sender.specs.Run.{Tp}
 use Rattle.downlink.specs.Damage.{Near, NearEnd, LlepsNear, TpNear}
 use Rattle.downlink.specs.Hearing.{Packet}
@@ -48,9 +49,9 @@ lowsFound (p ∷ ps) bs = low (beginOf (lowHead p bs)) (take (length (p .1)) (dr
 -- ---- the low-latency part
 
 module _ (P : ℕ) (top : P ≤ 2047) where
-  closes : (h : Header) (ps : List Packet) (b : ℕ) → NearEnd (cond (D.present (lleps ps)) 0xFF 0x00) b → L.ended (endOf b) h ≡ Whole h (D.present (lleps ps))
-  closes h [] b near = ap (λ (e : End). L.ended e h) (end-last b near)
-  closes h (p ∷ ps) b near = ap (λ (e : End). L.ended e h) (end-more b near)
+  closes : (h : Header) (ps : List Packet) (b : ℕ) → NearEnd (cond (D.present (lleps ps)) 0xFF 0x00) b → ended (endOf b) h ≡ Whole h (D.present (lleps ps))
+  closes h [] b near = ap (λ (e : End). ended e h) (end-last b near)
+  closes h (p ∷ ps) b near = ap (λ (e : End). ended e h) (end-more b near)
 
   llep-is : (p : Packet) (ps : List Packet) (bs : List ℕ) → LowOk P top p → LlepsNear (lleps (p ∷ ps)) bs → 7 + length (p .1) ≤ length bs
       → llep bs ≡ Whole (lowHead p bs) (D.present (lleps ps))

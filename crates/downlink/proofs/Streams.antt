@@ -6,7 +6,7 @@ use mathlib.Core.List.{List, [], _∷_, _++_, append-assoc, flatten}
 use native.Mathlib.Omega.{arith}
 use lib.ListN.{length, drop, length-append, length-drop}
 use lib.Seq.{drop-drop}
-use Rattle.receiver.specs.Low.{wire}
+use Rattle.downlink.proofs.plain.Low.{wire}
 use Rattle.downlink.specs.Damage.{Item, filler, packet, eps, allEps, EpsNear}
 use Rattle.downlink.specs.Hearing.{Packet}
 use Rattle.downlink.specs.Due.{size}

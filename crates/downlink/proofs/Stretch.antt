@@ -7,9 +7,9 @@ use native.Mathlib.Omega.{arith}
 use lib.ListN.{length, take, drop, length-append, length-drop}
 use lib.Seq.{take-at, drop-at, append-snoc}
 use Rattle.sender.specs.Drawing as D
-use Rattle.receiver.specs.Frame.{lost}
-use Rattle.receiver.specs.Join.{free, finds}
-use Rattle.receiver.specs.Low.{wire}
+use Rattle.downlink.proofs.plain.Frame.{lost}
+use Rattle.downlink.proofs.plain.Join.{free, finds}
+use Rattle.downlink.proofs.plain.Low.{wire}
 use Rattle.sender.specs.Run.{Tp}
 use Rattle.downlink.specs.Damage.{Item, allEps, TpsNear, EpsNear, drawn, behindLows, ordinaryOf}
 use Rattle.downlink.specs.Hearing.{Packet}

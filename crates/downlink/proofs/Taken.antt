@@ -8,7 +8,7 @@ use native.Mathlib.Omega.{arith}
 use lib.ListN.{length, take, drop, replicate, length-append, length-replicate, replicate-append-replicate, drop-of-length-le, take-append-drop}
 use lib.Seq.{length-take-le}
 use Rattle.sender.specs.Drawing.{fill, lacking, stream, owedAfter, restAfter, offset}
-use Rattle.receiver.specs.Low.{wire}
+use Rattle.downlink.proofs.plain.Low.{wire}
 use Rattle.downlink.proofs.Window.{bytes, bytes-append, before}
 use Rattle.downlink.proofs.Marks.{Cells, bytes-length, bytes-take, bytes-drop, before-take, drop-min, epCells, ep-bytes, Plain, plain-before, plain-drop, plain-append, Good, good-before, good-append, good-drop}
 use Rattle.downlink.proofs.Lows.{split}

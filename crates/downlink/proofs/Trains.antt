@@ -7,7 +7,7 @@ use mathlib.Core.Option.{some}
 use mathlib.Core.List.{List, [], _∷_, _++_, append-assoc, append-nil}
 use native.Mathlib.Omega.{arith}
 use lib.ListN.{length}
-use Rattle.receiver.specs.Frame.{Code, Frame, idle, head, body, Event, opened, entered, fed, closed, Out, within, ending, whole, after, events}
+use Rattle.downlink.proofs.plain.Frame.{Code, Frame, idle, head, body, Event, opened, entered, fed, closed, Out, within, ending, whole, after, events}
 use Rattle.downlink.proofs.Window.{Cell, bytes, run, bytes-append, after-append, events-append, Tracks}
 
 module _ (C : Code) where

@@ -8,8 +8,8 @@ use mathlib.Core.List.{List, [], _∷_, _++_, append-assoc}
 use native.Mathlib.Omega.{arith}
 use borrow.Author.Tests.{eq-eqb}
 use lib.ListN.{drop}
-use Rattle.receiver.specs.Frame.{Code, Frame, lost, idle, head, body, Event, Out, step, after, events}
-use Rattle.receiver.specs.Forecast.{Phase, off, between, inside, phase, foretold, Start, upon, judge, set-out, start}
+use Rattle.downlink.proofs.plain.Frame.{Code, Frame, lost, idle, head, body, Event, Out, step, after, events}
+use Rattle.downlink.proofs.plain.Forecast.{Phase, off, between, inside, phase, foretold, Start, upon, judge, set-out, start}
 
 module _ (C : Code) where
   -- a byte of the stream, and whether an EP begins with it

@@ -10,12 +10,14 @@ use Rattle.golay.specs.Answers.{endFlips, endOf}
 use Rattle.wire.specs.Reading.{headerOf, sortOf}
 use Rattle.receiver.specs.declared.Find.{Find}
 use Rattle.receiver.specs.declared.Find.the-variants as F
+use Rattle.receiver.specs.declared.Place.{Place}
 use Rattle.receiver.specs.declared.Receiver.{Receiver}
 use Rattle.receiver.specs.declared.Stage.the-variants.{Due, Fresh}
 use Rattle.receiver.specs.declared.Step.{Step}
 use Rattle.receiver.specs.declared.walk.Kept.the-variants.{Empty}
 use Rattle.receiver.specs.declared.walk.Phase.the-variants.{Head, Lost}
-use Rattle.receiver.specs.Call.{Gave, Gives, callOf, dueCall, firstCall, freshOf, stepped}
+use Rattle.receiver.specs.Call.{Gave, Gives, callAs, callOf, dueCall, firstCall, freshOf, stepped}
+use Rattle.receiver.specs.Place.{ownOf, startOf}
 use Rattle.receiver.specs.Forecast.{outset}
 use Rattle.receiver.specs.Kind.{kindOf, pieceOf}
 use Rattle.receiver.specs.Low.{llep, sized}
@@ -30,14 +32,26 @@ abbrev room : List ℕ
 room = 0x00 ∷ []
 
 abbrev opened : Receiver
-opened = freshOf 16 0 1
+opened = freshOf 16 0 1 0
 
 -- behind the low-latency packet, and behind the first TP, whose last three bytes begin a header
+-- a place of TP 1
+abbrev firstAt : ℕ → Place
+firstAt n = record { stamp = ownOf 1; at = n }
+
 abbrev behind : Step
-behind = record { receiver = record { size = 16; stream = 0; limit = 1; stage = Due 9; walk = record { at = 13; phase = Lost; kept = Empty } }; find = F.Low 1 10 2; about = record { repaired = 0 } }
+behind = record {
+  receiver = record { size = 16; stream = 0; limit = 1; count = 1; stage = Due 9; walk = record { at = 13; phase = Lost; began = startOf (ownOf 0); kept = Empty } };
+  find = F.Low 1 10 2;
+  about = record { repaired = 0; at = firstAt 0 };
+}
 
 abbrev between : Step
-between = record { receiver = record { size = 16; stream = 0; limit = 1; stage = Fresh; walk = record { at = 0; phase = Head 3 0x1007B4; kept = Empty } }; find = F.Nothing; about = record { repaired = 0 } }
+between = record {
+  receiver = record { size = 16; stream = 0; limit = 1; count = 1; stage = Fresh; walk = record { at = 0; phase = Head 3 0x1007B4; began = firstAt 9; kept = Empty } };
+  find = F.Nothing;
+  about = record { repaired = 0; at = firstAt 0 };
+}
 
 can-open : Able opened
 can-open = record { size = omega arith; walk = record { at = omega arith; phase = omega arith }; stage = omega arith }
@@ -45,21 +59,21 @@ can-open = record { size = omega arith; walk = record { at = omega arith; phase 
 -- the first TP's two calls, and what the second TP's first call finds
 
 first-call : Gives (callOf opened firstTp room) behind firstTp room
-unfolding callOf firstCall stepped lowsOf lows llep sized headerOf endOf endFlips kindOf sortOf pieceOf onesIn
+unfolding callOf callAs firstCall stepped lowsOf lows llep sized headerOf endOf endFlips kindOf sortOf pieceOf onesIn
 first-call = record {
   same = simp (first-word, low-header);
   able = record { size = omega arith; walk = record { at = omega arith; phase = omega arith }; stage = (omega arith, omega arith, omega arith) };
 }
 
 second-call : Gives (callOf (behind .receiver) firstTp room) between firstTp room
-unfolding callOf stepped dueCall outset
+unfolding callOf callAs stepped dueCall outset
 second-call = record {
   same = refl;
   able = record { size = omega arith; walk = record { at = omega arith; phase = (omega arith, omega arith, omega arith) }; stage = (omega arith, omega arith) };
 }
 
 third-find : callOf (between .receiver) secondTp room .said .find ≡ F.Ordinary 4 1
-unfolding callOf firstCall dueCall headerOf kindOf sortOf pieceOf outset
+unfolding callOf callAs firstCall dueCall headerOf kindOf sortOf pieceOf outset
 third-find = simp (second-word, cut-header)
 
 -- any receiver, by what it answers to a call: the step, and the room's bytes then

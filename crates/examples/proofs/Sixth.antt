@@ -1,5 +1,5 @@
--- Document 01's example 6, the receiver's half: the two TPs, read by the definitions, give low 1 with data 11 22, then
--- ordinary 4 with data 33, and are listed so. Each word is read once, by its distance 0 from a code word. Assumes nothing.
+-- Document 01's example 6, the receiver's half: the two TPs, read by the definitions, give low 1 with data 11 22, begun in
+-- TP 1 at place 0, then ordinary 4 with data 33, begun in TP 1 at place 9, and are listed so. Each word is read once, by its distance 0 from a code word. Assumes nothing.
 use mathlib.Core.Path.{ap₂, refl, sym, _≡_}
 use mathlib.Core.Option.{some}
 use mathlib.Core.List.{[], _∷_}
@@ -16,7 +16,7 @@ use Rattle.receiver.specs.Forecast.{outset}
 use Rattle.receiver.specs.Join.{low, ordinary}
 use Rattle.receiver.specs.Kind.{kindOf, pieceOf}
 use Rattle.receiver.specs.Low.{llep, lowPart, sized, walk}
-use Rattle.receiver.specs.Tp.{heard}
+use Rattle.receiver.specs.Tp.{brings, counts}
 use Rattle.block.specs.Decimal.{decimal}
 use Rattle.listing.specs.Lines.{lineWith}
 use Rattle.examples.specs.Examples.{sixth, read, intact, listing, sixthListing}
@@ -57,11 +57,11 @@ fill-header =
     header-is 0x00000000293E 0x000 0x002 d e
 
 -- with any room of at least a byte; here of one
-pub example-6 : read sixth ≡ low (intact 1) (0x11 ∷ 0x22 ∷ []) ∷ ordinary (intact 4) (0x33 ∷ []) ∷ []
-unfolding heard lowPart walk llep sized headerOf endOf endFlips kindOf sortOf pieceOf outset onesIn
+pub example-6 : read sixth ≡ low (intact 1 1 0) (0x11 ∷ 0x22 ∷ []) ∷ ordinary (intact 4 1 9) (0x33 ∷ []) ∷ []
+unfolding brings counts lowPart walk llep sized headerOf endOf endFlips kindOf sortOf pieceOf outset onesIn
 example-6 = simp (first-word, low-header, second-word, cut-header, fill-header)
 
 -- and its listing
 pub example-6-listed : listing sixth ≡ sixthListing
-unfolding heard lowPart walk llep sized headerOf endOf endFlips kindOf sortOf pieceOf outset onesIn lineWith decimal
+unfolding brings counts lowPart walk llep sized headerOf endOf endFlips kindOf sortOf pieceOf outset onesIn lineWith decimal
 example-6-listed = simp (first-word, low-header, second-word, cut-header, fill-header)

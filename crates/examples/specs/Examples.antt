@@ -42,7 +42,7 @@ inputs [] = []
 inputs (b ∷ bs) = tpIn b ∷ inputs bs
 
 abbrev pub read : List (List ℕ) → List (Finding wire)
-read bs = listingAll (record { size = 16; stream = 0; room = 1 }) (record { frame = lost; held = free }) (inputs bs) .0
+read bs = listingAll (record { size = 16; stream = 0; room = 1 }) 0 (record { frame = lost; held = free }) (inputs bs) .0
 
 -- the listing of a recording of TP length 16, stream 0, by a program whose room has 32,768 bytes
 abbrev pub listing : List (List ℕ) → List ℕ
@@ -76,9 +76,9 @@ pub data Hold : List Example → Type 0 where
   done : Hold []
   _and_ : {x : Example} {xs : List Example} → Holds x → Hold xs → Hold (x ∷ xs)
 
--- a packet of this content, in which nothing was repaired
-abbrev pub intact : ℕ → Tag
-intact c = record { content = c; repaired = 0 }
+-- a packet of this content, in which nothing was repaired, begun in TP t at payload place p
+abbrev pub intact : ℕ → ℕ → ℕ → Tag
+intact c t p = record { content = c; repaired = 0; at = record { stamp = record { number = t; byte = 0 }; at = p } }
 
 -- the TPs of example 6
 abbrev pub firstTp : List ℕ
@@ -132,7 +132,7 @@ examples =
     ∷ cuts 2 1 (0x11 ∷ 0x22 ∷ 0x33 ∷ [])
     ((0x05 ∷ 0x0E ∷ 0xFE ∷ 0x00 ∷ 0x29 ∷ 0x3E ∷ 0x11 ∷ 0x22 ∷ []) ∷ (0x07 ∷ 0x08 ∷ 0x33 ∷ 0x00 ∷ 0x18 ∷ 0xEB ∷ 0x33 ∷ []) ∷ [])
     ∷ sends (low 1 (0x11 ∷ 0x22 ∷ []) ∷ ordinary 4 (0x33 ∷ []) ∷ drawn ∷ drawn ∷ []) sixth
-    ∷ reads sixth (J.low (intact 1) (0x11 ∷ 0x22 ∷ []) ∷ J.ordinary (intact 4) (0x33 ∷ []) ∷ [])
+    ∷ reads sixth (J.low (intact 1 1 0) (0x11 ∷ 0x22 ∷ []) ∷ J.ordinary (intact 4 1 9) (0x33 ∷ []) ∷ [])
     ∷ lists sixth sixthListing
     ∷ records sixthSetup sixthScript sixthRecording
     ∷ sends (ordinary 1 (0x11 ∷ 0x22 ∷ []) ∷ drawn ∷ drawn ∷ [])

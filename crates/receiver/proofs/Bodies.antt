@@ -24,12 +24,16 @@ use Rattle.receiver.specs.declared.walk.Walk.{Walk}
 use Rattle.receiver.specs.Frame.{ending, whole, within}
 use Rattle.receiver.specs.Join.{Held, held}
 use Rattle.receiver.specs.Kind.{kindOf}
-use Rattle.receiver.specs.Low.{tagOf, wire}
+use Rattle.receiver.specs.declared.Place.{Place}
+use Rattle.receiver.specs.declared.Stamp.{Stamp}
+use Rattle.receiver.specs.Place.{placeAt, placed}
+use Rattle.receiver.specs.Low.{Ep, epAt, epIf, tagOf, wire}
 use Rattle.receiver.specs.Pull.{dry, meet, pull}
 use Rattle.receiver.specs.State.{Fine, Roomy, Sound, headed, heldOf, pullOf}
-use Rattle.receiver.specs.Turns.{advanceBy, advanceOf, bodyTurn, finishOf, grownBy, headerTurn, stops, walkAt, wholeOf}
+use Rattle.receiver.specs.Turns.{advanceBy, advanceOf, begunAt, bodyTurn, finishOf, grownBy, headerTurn, stops, walkAt, wholeOf}
 use Rattle.receiver.specs.InWalk.{Ends, On, Carries, pasted, roomBy, roomOf, shown}
-use Rattle.receiver.proofs.Heading.{Bytes, digits-number, heads, heads-whole, length-digits, number-append, number-digits, number-small, on-with}
+use Rattle.receiver.proofs.Heading.{Bytes, begun-first, digits-number, first, heads, heads-whole, length-digits, number-append, number-digits, number-small, on-with}
+use Rattle.receiver.proofs.Placing.{length-placed, placed-append, plain, plain-placed}
 use Rattle.receiver.proofs.Run.{grows, grows-free, grows-held, lost-run, puts, puts-free, puts-held, run}
 use Rattle.receiver.proofs.Turning.{admit-turned, finish-by, whole-turned}
 
@@ -37,19 +41,19 @@ use Rattle.receiver.proofs.Turning.{admit-turned, finish-by, whole-turn
 pub kept-held : (cap n : ℕ) (k : Kept) (m x : List ℕ) → length m ≡ cap → Roomy cap k n → n ≤ length x
     → heldOf (grownBy n k) (pasted k m x n) ≡ grows wire cap (heldOf k m) (take n x)
 kept-held cap n Empty m x f r l = sym (grows-free wire cap (take n x))
-kept-held cap n (Of c sum a) m x f r l = ap (held (tagOf c sum)) (take-paste m a x n (omega arith) l) ∙ sym (grows-held wire cap (tagOf c sum) (take a m) (take n x))
+kept-held cap n (Of c sum b a) m x f r l = ap (held (tagOf c sum b)) (take-paste m a x n (omega arith) l) ∙ sym (grows-held wire cap (tagOf c sum b) (take a m) (take n x))
 
 kept-room : (cap n : ℕ) (k : Kept) (m x : List ℕ) → length m ≡ cap → Roomy cap k n → n ≤ length x
     → pasted k m x n ≡ puts wire cap (heldOf k m) (take n x) m
 kept-room cap n Empty m x f r l = sym (puts-free wire cap (take n x) m)
-kept-room cap n (Of c sum a) m x f r l =
+kept-room cap n (Of c sum b a) m x f r l =
     let t = length-take-le n x l in
     let e = sets-eq (take n x) m a (omega arith) in
-    sym (puts-held wire cap (tagOf c sum) a (take a m) (take n x) m (sym (length-take-le a m (omega arith))) ∙ rw t at e)
+    sym (puts-held wire cap (tagOf c sum b) a (take a m) (take n x) m (sym (length-take-le a m (omega arith))) ∙ rw t at e)
 
 grown-room : (cap n z : ℕ) (k : Kept) → Roomy cap k (n + z) → Roomy cap (grownBy n k) z
 grown-room cap n z Empty r = r
-grown-room cap n z (Of c sum a) r = omega arith
+grown-room cap n z (Of c sum b a) r = omega arith
 
 pub decoded : (n w : ℕ) (ds : List ℕ) → w < 256 ^ n → headerOf (digits n w ++ ds) ≡ headerIn (number w ds)
 unfolding headerOf
@@ -57,11 +61,11 @@ decoded n w ds h = ap headerIn (number-append 0 (digits n w) ds ∙ ap (λ (x : 
 
 pub fewer : (cap n z : ℕ) (k : Kept) → Roomy cap k z → n ≤ z → Roomy cap k n
 fewer cap n z Empty r l = r
-fewer cap n z (Of c sum a) r l = omega arith
+fewer cap n z (Of c sum b a) r l = omega arith
 
 pasted-length : (cap n : ℕ) (k : Kept) (m x : List ℕ) → length m ≡ cap → Roomy cap k n → n ≤ length x → length (pasted k m x n) ≡ cap
 pasted-length cap n Empty m x f r l = f
-pasted-length cap n (Of c sum a) m x f r l = length-paste m a x n (omega arith) l ∙ f
+pasted-length cap n (Of c sum b a) m x f r l = length-paste m a x n (omega arith) l ∙ f
 
 pub room-length : (cap : ℕ) (w : Walk) (tp m : List ℕ) → length m ≡ cap → Sound cap (length tp) w → length (roomOf w tp m) ≡ cap
 unfolding roomOf
@@ -76,15 +80,15 @@ room-length cap w tp m f s = by (w .phase) (s .phase)
 
 module _ (cap : ℕ) where
   -- in an EP's data at the end of the bytes
-  data-ends : (k j : ℕ) (h : Header) (s : Held wire) (m : List ℕ) → 0 < k
+  data-ends : (k j : ℕ) (h : Ep) (s : Held wire) (m : List ℕ) → 0 < k
       → pull wire cap (within wire h k) j (meet wire cap s m (ending wire h k)) []
       ≡ record { find = none; at = j; frame = within wire h k; todo = ending wire h k; held = s; room = m }
   data-ends zero j h s m p = absurd (omega arith)
   data-ends (suc k) j h s m p = refl
 
-  module _ (tp m : List ℕ) (full : length m ≡ cap) (at left : ℕ) (h : Header) (k : Kept) (s : Sound cap (length tp) (walkAt at (Body h left) k)) where
+  module _ (t : Stamp) (tp m : List ℕ) (full : length m ≡ cap) (at left : ℕ) (h : Header) (g : Place) (k : Kept) (s : Sound cap (length tp) (walkAt at (Body h left) g k)) where
     body-short : length tp - at < left
-        → Carries cap (walkAt at (Body h left) k) tp m (stops (at + (length tp - at)) (Body h (left - (length tp - at))) (grownBy (length tp - at) k) Nothing) (pasted k m (drop at tp) (length tp - at))
+        → Carries cap t (walkAt at (Body h left) g k) tp m (stops (at + (length tp - at)) (Body h (left - (length tp - at))) g (grownBy (length tp - at) k) Nothing) (pasted k m (drop at tp) (length tp - at))
     unfolding Carries pullOf shown
     body-short l =
         let r = length tp - at in
@@ -92,19 +96,24 @@ module _ (cap : ℕ) where
         let v : length (drop at tp) ≡ r = length-drop at tp in
         let q : Roomy cap k left = s .phase in
         let q′ : Roomy cap k r = fewer cap r left k q (omega arith) in
-        let t : take r (drop at tp) ≡ drop at tp = take-all r (drop at tp) (omega arith) in
+        let all : take r (drop at tp) ≡ drop at tp = take-all r (drop at tp) (omega arith) in
         let a = kept-held cap r k m (drop at tp) full q′ (omega arith) in
         let b = kept-room cap r k m (drop at tp) full q′ (omega arith) in
-        let x = run wire cap h (left - r) (at + r) left at (heldOf k m) m (drop at tp) [] (omega arith) (omega arith) in
-        let y = data-ends (left - r) (at + r) h (grows wire cap (heldOf k m) (drop at tp)) (puts wire cap (heldOf k m) (drop at tp) m) (omega arith) in
+        let ps = placed t at (drop at tp) in
+        let u : length ps ≡ r = length-placed t at (drop at tp) ∙ v in
+        let x = run wire cap (epAt g h) (left - r) (at + r) left at (heldOf k m) m ps [] (omega arith) (omega arith) in
+        let y = data-ends (left - r) (at + r) (epAt g h) (grows wire cap (heldOf k m) (plain wire ps)) (puts wire cap (heldOf k m) (plain wire ps) m) (omega arith) in
+        let z : pull wire cap (within wire (epAt g h) left) at (meet wire cap (heldOf k m) m (ending wire (epAt g h) left)) ps
+        ≡ record { find = none; at = at + r; frame = within wire (epAt g h) (left - r); todo = ending wire (epAt g h) (left - r); held = grows wire cap (heldOf k m) (drop at tp); room = puts wire cap (heldOf k m) (drop at tp) m } =
+        rw (append-nil ps, plain-placed t at (drop at tp)) at (x ∙ y) in
         record {
-          same = rw (a, b, t) (sym (rw (append-nil (drop at tp)) at x ∙ y));
+          same = rw (a, b, all) (sym z);
           sound = record { at = omega arith; phase = grown-room cap r (left - r) k (fewer cap (r + (left - r)) left k q (omega arith)) };
           gained = omega arith;
         }
 
     body-long : left ≤ length tp - at
-        → Carries cap (walkAt at (Body h left) k) tp m (finishOf (kindOf h) (at + left) (grownBy left k)) (pasted k m (drop at tp) left)
+        → Carries cap t (walkAt at (Body h left) g k) tp m (finishOf (kindOf h) (at + left) g (grownBy left k)) (pasted k m (drop at tp) left)
     unfolding pullOf
     body-long l =
         let m′ = pasted k m (drop at tp) left in
@@ -113,117 +122,121 @@ module _ (cap : ℕ) where
         let v : length (drop at tp) ≡ length tp - at = length-drop at tp in
         let q : Roomy cap k left = s .phase in
         let ds : List ℕ = take left (drop at tp) in
-        let t : length ds ≡ left = length-take-le left (drop at tp) (omega arith) in
+        let long : length ds ≡ left = length-take-le left (drop at tp) (omega arith) in
         let a = kept-held cap left k m (drop at tp) full q (omega arith) in
         let b = kept-room cap left k m (drop at tp) full q (omega arith) in
         let full′ : length m′ ≡ cap = pasted-length cap left k m (drop at tp) full q (omega arith) in
-        let x = run wire cap h 0 (at + left) left at (heldOf k m) m ds (drop left (drop at tp)) (omega arith) (omega arith) in
-        let z : ds ++ drop left (drop at tp) ≡ drop at tp = take-append-drop left (drop at tp) in
+        let ps = placed t at ds in
+        let u : length ps ≡ left = length-placed t at ds ∙ long in
+        let x = run wire cap (epAt g h) 0 (at + left) left at (heldOf k m) m ps (placed t (at + left) (drop left (drop at tp))) (omega arith) (omega arith) in
+        let z : placed t at ds ++ placed t (at + left) (drop left (drop at tp)) ≡ placed t at (drop at tp) =
+        sym (placed-append t at (at + left) ds (drop left (drop at tp)) (omega arith)) ∙ ap (placed t at) (take-append-drop left (drop at tp)) in
         let y = drop-drop left at tp in
-        let e = rw (z, ← a, ← b, y) at x in
+        let e = rw (z, plain-placed t at ds, ← a, ← b, y) at x in
         let q₀ : Roomy cap k (left + 0) = fewer cap (left + 0) left k q (omega arith) in
         let r : Roomy cap k′ 0 = grown-room cap left 0 k q₀ in
-        finish-by cap tp m′ full′ (kindOf h) (walkAt at (Body h left) k) m (at + left) k′ (omega arith) r (omega arith) (sym e)
+        finish-by cap t tp m′ full′ (kindOf h) (walkAt at (Body h left) g k) m (at + left) g k′ (omega arith) r (omega arith) (sym e)
 
-  module _ (tp m : List ℕ) (full : length m ≡ cap) (bytes : Bytes tp) where
-    header-by : (b : Bool) (at n w : ℕ) (k : Kept) → at ≤ length tp → Fine cap (Head n w) k → ltb (length tp - at) (6 - n) ≡ b
-        → Carries cap (walkAt at (Head n w) k) tp m
-        (cond b (stops (at + (length tp - at)) (Head (n + (length tp - at)) (number w (take (length tp - at) (drop at tp)))) k Nothing)
-        (wholeOf (at + (6 - n)) (headerIn (number w (take (6 - n) (drop at tp)))) k cap)) m
+  module _ (t : Stamp) (tp m : List ℕ) (full : length m ≡ cap) (bytes : Bytes tp) where
+    header-by : (b : Bool) (at n w : ℕ) (g : Place) (k : Kept) → at ≤ length tp → Fine cap (Head n w) k → ltb (length tp - at) (6 - n) ≡ b
+        → Carries cap t (walkAt at (Head n w) g k) tp m
+        (cond b (stops (at + (length tp - at)) (Head (n + (length tp - at)) (number w (take (length tp - at) (drop at tp)))) (begunAt t at n g) k Nothing)
+        (wholeOf (at + (6 - n)) (headerIn (number w (take (6 - n) (drop at tp)))) (begunAt t at n g) k cap)) m
     unfolding Carries pullOf shown
-    header-by true at n w k l f q =
+    header-by true at n w g k l f q =
         let r = length tp - at in
         let u = ltb-true (length tp - at) (6 - n) q in
         let v : length (drop at tp) ≡ r = length-drop at tp in
-        let t : take r (drop at tp) ≡ drop at tp = take-all r (drop at tp) (omega arith) in
+        let all : take r (drop at tp) ≡ drop at tp = take-all r (drop at tp) (omega arith) in
         let y : Bytes (drop at tp) = (λ i. rw (getD-drop at tp i 0) (bytes (at + i))) in
         let d = digits-number n (n + r) w (drop at tp) y (omega arith) in
-        let g = number-small n (n + r) w (drop at tp) y (omega arith) (f .1) in
-        let x = heads cap (heldOf k m) m (digits n w) (drop at tp) [] at (at + r) (omega (arith, length-digits n w)) (omega arith) in
+        let small = number-small n (n + r) w (drop at tp) y (omega arith) (f .1) in
+        let x = heads cap t (heldOf k m) m g (digits n w) (drop at tp) [] at (at + r) (omega (arith, length-digits n w)) (omega arith) in
         record {
-          same = rw (t, d) (sym (rw (append-nil (drop at tp)) at x));
-          sound = record { at = omega arith; phase = rw t (omega arith, g, f .2) };
+          same = rw (all, d) (sym (rw (append-nil (drop at tp), begun-first t at n w g) at x));
+          sound = record { at = omega arith; phase = rw all (omega arith, small, f .2) };
           gained = omega arith;
         }
-    header-by false at n w k l f q =
+    header-by false at n w g k l f q =
         let u = ltb-false (length tp - at) (6 - n) q in
         let v : length (drop at tp) ≡ length tp - at = length-drop at tp in
         let ds : List ℕ = take (6 - n) (drop at tp) in
-        let t : length ds ≡ 6 - n = length-take-le (6 - n) (drop at tp) (omega arith) in
+        let long : length ds ≡ 6 - n = length-take-le (6 - n) (drop at tp) (omega arith) in
         let z : ds ++ drop (6 - n) (drop at tp) ≡ drop at tp = take-append-drop (6 - n) (drop at tp) in
         let y = drop-drop (6 - n) at tp in
         let x = some-heads (digits n w) ds (drop (6 - n) (drop at tp)) at (at + (6 - n)) (omega (arith, length-digits n w)) (omega arith) (omega arith) in
         let e : headerOf (digits n w ++ ds) ≡ headerIn (number w ds) = decoded n w ds (f .1) in
-        whole-turned cap tp m full (walkAt at (Head n w) k) (at + (6 - n)) (headerIn (number w ds)) k (omega arith) (f .2) (omega arith)
-        (sym (rw (z, e, y) at x))
+        whole-turned cap t tp m full (walkAt at (Head n w) g k) (at + (6 - n)) (headerIn (number w ds)) (begunAt t at n g) k (omega arith) (f .2) (omega arith)
+        (sym (rw (z, e, y, begun-first t at n w g) at x))
       where
         some-heads : (hs ds bs : List ℕ) (at j : ℕ) → length hs + length ds ≡ 6 → 0 < length ds → j ≡ at + length ds
-            → pull wire cap (headed hs) at (dry (heldOf k m) m) (ds ++ bs) ≡ on-with cap (heldOf k m) m (whole wire (headerOf (hs ++ ds))) j bs
+            → pull wire cap (headed g hs) at (dry (heldOf k m) m) (placed t at (ds ++ bs))
+            ≡ on-with cap t (heldOf k m) m (whole wire (first hs (placeAt t at) g) (epIf (first hs (placeAt t at) g) (headerOf (hs ++ ds)))) j bs
         some-heads hs [] bs at j l p e = absurd (omega arith)
-        some-heads hs (d ∷ ds) bs at j l p e = heads-whole cap (heldOf k m) m hs d ds bs at j (omega arith) (omega arith)
+        some-heads hs (d ∷ ds) bs at j l p e = heads-whole cap t (heldOf k m) m g hs d ds bs at j (omega arith) (omega arith)
 
     header-turned : (w : Walk) (n x : ℕ) → Sound cap (length tp) w → w .phase ≡ Head n x
-        → Carries cap w tp m (headerTurn tp (w .at) n x (w .kept) cap) m
+        → Carries cap t w tp m (headerTurn tp (w .at) n x (begunAt t (w .at) n (w .began)) (w .kept) cap) m
     unfolding headerTurn
     header-turned w n x s q =
-        let v : walkAt (w .at) (Head n x) (w .kept) ≡ w = ap (λ (p : Phase). walkAt (w .at) p (w .kept)) (sym q) in
+        let v : walkAt (w .at) (Head n x) (w .began) (w .kept) ≡ w = ap (λ (p : Phase). walkAt (w .at) p (w .began) (w .kept)) (sym q) in
         let s′ = rw (← v) at s in
-        rw (← v) (header-by (ltb (length tp - w .at) (6 - n)) (w .at) n x (w .kept) (s′ .at) (s′ .phase) refl)
+        rw (← v) (header-by (ltb (length tp - w .at) (6 - n)) (w .at) n x (w .began) (w .kept) (s′ .at) (s′ .phase) refl)
 
-    lost-turned : (w : Walk) → Sound cap (length tp) w → w .phase ≡ Lost → Carries cap w tp m (stops (length tp) Lost (w .kept) Nothing) m
+    lost-turned : (w : Walk) → Sound cap (length tp) w → w .phase ≡ Lost → Carries cap t w tp m (stops (length tp) Lost (w .began) (w .kept) Nothing) m
     unfolding Carries pullOf shown
     lost-turned w s q =
         let p = s .at in
-        let v : walkAt (w .at) Lost (w .kept) ≡ w = ap (λ (p : Phase). walkAt (w .at) p (w .kept)) (sym q) in
+        let v : walkAt (w .at) Lost (w .began) (w .kept) ≡ w = ap (λ (p : Phase). walkAt (w .at) p (w .began) (w .kept)) (sym q) in
         let s′ = rw (← v) at s in
         rw (← v) (record {
-          same = sym (lost-run wire cap (drop (w .at) tp) (w .at) (length tp) (heldOf (w .kept) m) m (omega (arith, length-drop (w .at) tp)));
+          same = sym (lost-run wire cap (placed t (w .at) (drop (w .at) tp)) (w .at) (length tp) (heldOf (w .kept) m) m (omega (arith, length-drop (w .at) tp, length-placed t (w .at) (drop (w .at) tp))));
           sound = record { at = omega arith; phase = s′ .phase };
           gained = omega arith;
         })
 
     body-turned : (w : Walk) (h : Header) (left : ℕ) → Sound cap (length tp) w → w .phase ≡ Body h left
-        → Carries cap w tp m (bodyTurn tp (w .at) h left (w .kept)) (pasted (w .kept) m (drop (w .at) tp) (min left (length tp - w .at)))
+        → Carries cap t w tp m (bodyTurn tp (w .at) h left (w .began) (w .kept)) (pasted (w .kept) m (drop (w .at) tp) (min left (length tp - w .at)))
     unfolding bodyTurn
     body-turned w h left s q =
-        let v : walkAt (w .at) (Body h left) (w .kept) ≡ w = ap (λ (p : Phase). walkAt (w .at) p (w .kept)) (sym q) in
+        let v : walkAt (w .at) (Body h left) (w .began) (w .kept) ≡ w = ap (λ (p : Phase). walkAt (w .at) p (w .began) (w .kept)) (sym q) in
         let s′ = rw (← v) at s in
         rw (← v) (by (ltb (length tp - w .at) left) refl s′)
       where
-        by : (b : Bool) → ltb (length tp - w .at) left ≡ b → Sound cap (length tp) (walkAt (w .at) (Body h left) (w .kept))
-            → Carries cap (walkAt (w .at) (Body h left) (w .kept)) tp m
-            (cond b (stops (w .at + (length tp - w .at)) (Body h (left - (length tp - w .at))) (grownBy (length tp - w .at) (w .kept)) Nothing)
-            (finishOf (kindOf h) (w .at + left) (grownBy left (w .kept)))) (pasted (w .kept) m (drop (w .at) tp) (min left (length tp - w .at)))
+        by : (b : Bool) → ltb (length tp - w .at) left ≡ b → Sound cap (length tp) (walkAt (w .at) (Body h left) (w .began) (w .kept))
+            → Carries cap t (walkAt (w .at) (Body h left) (w .began) (w .kept)) tp m
+            (cond b (stops (w .at + (length tp - w .at)) (Body h (left - (length tp - w .at))) (w .began) (grownBy (length tp - w .at) (w .kept)) Nothing)
+            (finishOf (kindOf h) (w .at + left) (w .began) (grownBy left (w .kept)))) (pasted (w .kept) m (drop (w .at) tp) (min left (length tp - w .at)))
         by true e s =
             let l = ltb-true (length tp - w .at) left e in
             let n : min left (length tp - w .at) ≡ length tp - w .at = omega arith in
-            rw n (body-short tp m full (w .at) left h (w .kept) s l)
+            rw n (body-short t tp m full (w .at) left h (w .began) (w .kept) s l)
         by false e s =
             let l = ltb-false (length tp - w .at) left e in
             let n : min left (length tp - w .at) ≡ left = omega arith in
-            rw n (body-long tp m full (w .at) left h (w .kept) s l)
+            rw n (body-long t tp m full (w .at) left h (w .began) (w .kept) s l)
 
     -- ONE TURN, whatever room is lent: the call that is still asked for behind it is the one that was asked for
-    pub advance-carries : (w : Walk) → Sound cap (length tp) w → Carries cap w tp m (advanceOf cap w tp) (roomOf w tp m)
+    pub advance-carries : (w : Walk) → Sound cap (length tp) w → Carries cap t w tp m (advanceOf cap t w tp) (roomOf w tp m)
     unfolding advanceOf roomOf
     advance-carries w s = by (w .phase) refl
       where
-        by : (p : Phase) → w .phase ≡ p → Carries cap w tp m (advanceBy p (w .at) (w .kept) cap tp) (roomBy p (w .at) (w .kept) tp m)
+        by : (p : Phase) → w .phase ≡ p → Carries cap t w tp m (advanceBy p t (w .at) (w .began) (w .kept) cap tp) (roomBy p (w .at) (w .kept) tp m)
         by Lost e = lost-turned w s e
         by (Head n x) e = header-turned w n x s e
-        by (Judged h) e = admit-turned cap tp m full w h s e
+        by (Judged h) e = admit-turned cap t tp m full w h s e
         by (Body h left) e = body-turned w h left s e
 
 -- the loop over turns: from w₀ with the room's bytes m₀ it has come to w and m, and the turn's data are put in
-module _ (tp m₀ m m′ : List ℕ) (w₀ w : Walk) (r : Turn) (full : length m ≡ length m₀) (bytes : Bytes tp) (s : Sound (length m₀) (length tp) w)
-    (t : (r ≡ advanceOf (length m) w tp) × (m′ ≡ roomOf w tp m)) where
-  turned : Carries (length m₀) w tp m r m′
-  turned = rw (t .0, full, t .1) (advance-carries (length m₀) tp m full bytes w s)
+module _ (st : Stamp) (tp m₀ m m′ : List ℕ) (w₀ w : Walk) (r : Turn) (full : length m ≡ length m₀) (bytes : Bytes tp) (s : Sound (length m₀) (length tp) w)
+    (t : (r ≡ advanceOf (length m) st w tp) × (m′ ≡ roomOf w tp m)) where
+  turned : Carries (length m₀) st w tp m r m′
+  turned = rw (t .0, full, t .1) (advance-carries (length m₀) st tp m full bytes w s)
 
-  pub turn-on : (x : Walk) → r ≡ More x → On (length m₀) w tp m x m′
+  pub turn-on : (x : Walk) → r ≡ More x → On (length m₀) st w tp m x m′
   unfolding Carries
   turn-on x e = rw e at turned
 
-  pub turn-ends : (a : Answer) → r ≡ Stop a → pullOf (length m₀) w tp m ≡ pullOf (length m₀) w₀ tp m₀ → Ends (length m₀) w₀ tp m₀ a m′
+  pub turn-ends : (a : Answer) → r ≡ Stop a → pullOf (length m₀) st w tp m ≡ pullOf (length m₀) st w₀ tp m₀ → Ends (length m₀) st w₀ tp m₀ a m′
   unfolding Carries
-  turn-ends a e p = let q : Ends (length m₀) w tp m a m′ = rw e at turned in record { same = q .same ∙ p; sound = q .sound; gained = q .gained }
+  turn-ends a e p = let q : Ends (length m₀) st w tp m a m′ = rw e at turned in record { same = q .same ∙ p; sound = q .sound; gained = q .gained }

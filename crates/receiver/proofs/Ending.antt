@@ -15,17 +15,20 @@ use Rattle.wire.specs.declared.Header.{Header}
 use Rattle.receiver.specs.declared.Find.{Find}
 use Rattle.receiver.specs.declared.Receiver.{Receiver}
 use Rattle.receiver.specs.declared.Stage.{Stage}
+use Rattle.receiver.specs.declared.Stamp.{Stamp}
 use Rattle.receiver.specs.declared.kind.Kind.{Kind}
 use Rattle.receiver.specs.declared.kind.Kind.the-variants.{Complete, Fill, First, Last, Middle, Reserved}
 use Rattle.receiver.specs.declared.low.Llep.{Llep}
 use Rattle.receiver.specs.declared.low.Llep.the-variants.{Broken, Whole}
 use Rattle.receiver.specs.declared.low.Lows.{Lows}
-use Rattle.receiver.specs.Call.{Gave, wordCall, payloadCall, callOf, dataOf, dueCall, firstCall, gone, lowCall, ordinaryBy, stageCall, startCall, unchanged, walkTo}
-use Rattle.receiver.specs.Forecast.{Start, dropped, outset, start}
+use Rattle.receiver.specs.declared.stages.Stamps.{Stamps}
+use Rattle.receiver.specs.Call.{Gave, callAs, callOf, countedOf, dataOf, dueCall, firstCall, gone, lowCall, ordinaryBy, payloadCall, stageCall, stampsOf, startCall, unchanged, walkTo, wordCall}
+use Rattle.receiver.specs.Forecast.{Start, dropped, outset}
 use Rattle.receiver.specs.Join.{Finding, low, notice, ordinary}
 use Rattle.receiver.specs.Kind.{kindOf}
 use Rattle.receiver.specs.Low.{llep, wire}
 use Rattle.receiver.specs.Lows.{andThen, lows, lowsOf, oneOf, passedOf}
+use Rattle.receiver.specs.Place.{placeAt, placed, startOf}
 use Rattle.receiver.specs.Pull.{Pulled}
 use Rattle.receiver.specs.State.{frameOf, from, heldOf, pullOf, todoOf}
 use Rattle.receiver.proofs.Late.{AllLate, LateFind, outset-late, pull-late, todo-late}
@@ -70,7 +73,7 @@ OnFind z (F.Ordinary c n) = 1 ≤ 0
 abbrev OnLows : ℕ → Lows → Type 0
 OnLows z (L.Broken i) = 0 ≤ 0
 OnLows z (L.End i) = 0 ≤ 0
-OnLows z (L.Gives f e more i) = OnFind z f
+OnLows z (L.Gives f e from more i) = OnFind z f
 
 passed-goes : (k : Kind) (h : Header) (m : Bool) (at z : ℕ) (go : ℕ → Lows) → at + 7 + h .size ≤ z → ((i : ℕ) → OnLows z (go i)) → OnLows z (andThen (passedOf k h m at) go)
 passed-goes Fill h true at z go l ih = ih (at + 7 + h .size)
@@ -105,22 +108,24 @@ on-stage : (more : Bool) (o : ℕ) → cond more (S.Low o) (S.Due o) ≡ S.Fresh
 on-stage true o e = let z : _≡_ {A = ℕ} 0 1 = cc in omega arith
 on-stage false o e = let z : _≡_ {A = ℕ} 0 1 = cc in omega arith
 
-module _ (r : Receiver) (tp m : List ℕ) where
-  plain-tells : (x : Option (Finding wire)) (p : Pulled wire) → LateFind x → Tells tp (ordinaryBy x r p)
+-- in a TP of this stamp
+module _ (r : Receiver) (t : Stamp) (tp m : List ℕ) where
+  plain-tells : (x : Option (Finding wire)) (p : Pulled wire) → LateFind x → Tells tp (ordinaryBy x r t p)
   plain-tells none p l = record { over = λ e. refl; ended = λ e. omega arith; within = omega arith }
-  plain-tells (some (notice n)) p l = record { over = λ e. absurd (omega arith); ended = λ e. absurd (not-fresh e); within = omega arith }
+  plain-tells (some (notice n g)) p l = record { over = λ e. absurd (omega arith); ended = λ e. absurd (not-fresh e); within = omega arith }
   plain-tells (some (low c d)) p l = absurd (omega arith)
   plain-tells (some (ordinary c d)) p l = record { over = λ e. absurd (omega arith); ended = λ e. absurd (not-fresh e); within = refl }
 
-  start-tells : (at : ℕ) (t : Start wire) → AllLate (t .told) → Tells tp (startCall r at t tp m)
-  start-tells at t l =
-      let p = from (length m) t (walkTo r at) tp m in
-      plain-tells (p .find) p (pull-late (length m) (t .frame) (at + t .past) (heldOf (r .walk .kept) m) m (t .told) (drop (at + t .past) tp) l)
+  start-tells : (at : ℕ) (x : Start wire) → AllLate (x .told) → Tells tp (startCall r t at x tp m)
+  start-tells at x l =
+      let p = from (length m) t x (walkTo r at) tp m in
+      plain-tells (p .find) p (pull-late (length m) (x .frame) (at + x .past) (heldOf (r .walk .kept) m) m (x .told) (placed t (at + x .past) (drop (at + x .past) tp)) l)
 
-  due-tells : (o at : ℕ) → Tells tp (dueCall r o at tp m)
+  due-tells : (o at : ℕ) → Tells tp (dueCall r t o at tp m)
   unfolding dueCall
   due-tells o at =
-      start-tells at (outset wire (frameOf (r .walk .phase)) o (at - 4) (drop at tp)) (outset-late (frameOf (r .walk .phase)) o (at - 4) (drop at tp))
+      let f = frameOf (r .walk .began) (r .walk .phase) in
+      start-tells at (outset wire (startOf t) f o (at - 4) (placed t at (drop at tp))) (outset-late (startOf t) f o (at - 4) (placed t at (drop at tp)))
 
   found-in : (f : Find) → OnFind (length tp) f → Within tp f (dataOf f tp m)
   found-in F.Nothing a = omega arith
@@ -129,52 +134,68 @@ module _ (r : Receiver) (tp m : List ℕ) where
   found-in (F.Low c start n) a = a
   found-in (F.Ordinary c n) a = absurd (omega arith)
 
-  low-tells : (l : Lows) (o : ℕ) → OnLows (length tp) l → Tells tp (lowCall l r o tp m)
-  low-tells (L.Broken at) o a = start-tells at (dropped wire 11 (drop at tp)) (omega arith, omega arith)
+  low-tells : (l : Lows) (o : ℕ) → OnLows (length tp) l → Tells tp (lowCall l r t o tp m)
+  low-tells (L.Broken at) o a = start-tells at (dropped wire 11 (placeAt t at) (placed t at (drop at tp))) (omega arith, omega arith)
   low-tells (L.End at) o a = due-tells o at
-  low-tells (L.Gives f e more at) o a = record { over = λ e. absurd (on-find (length tp) f a e); ended = λ e. absurd (on-stage more o e); within = found-in f a }
+  low-tells (L.Gives f e from more at) o a = record { over = λ e. absurd (on-find (length tp) f a e); ended = λ e. absurd (on-stage more o e); within = found-in f a }
 
-  payloadCall-tells : (b : Bool) (o : ℕ) → Tells tp (payloadCall b r o tp m)
+  payloadCall-tells : (b : Bool) (o : ℕ) → Tells tp (payloadCall b r t o tp m)
   payloadCall-tells true o = low-tells (lowsOf tp 4) o (walk-goes tp 4)
   payloadCall-tells false o = due-tells o 4
 
-  gone-tells : (n : ℕ) → 6 ≤ n → n ≤ 9 → Tells tp (gone r n m)
+  gone-tells : (n : ℕ) → 6 ≤ n → n ≤ 9 → Tells tp (gone r t n m)
   gone-tells n a b = record { over = λ e. refl; ended = λ e. (a, b); within = omega arith }
 
-  begun-tells : (o : Option ℕ) → Tells tp (wordCall o r tp m)
+  begun-tells : (o : Option ℕ) → Tells tp (wordCall o r t tp m)
   begun-tells none = gone-tells 9 (omega arith) (omega arith)
   begun-tells (some w) = payloadCall-tells (leb 2048 w) (w % 2048)
 
-  still-tells : (n : ℕ) → 6 ≤ n → n ≤ 9 → r .stage ≡ S.Fresh → Tells tp (unchanged r (F.Notice n) n m)
+  still-tells : (n : ℕ) → 6 ≤ n → n ≤ 9 → r .stage ≡ S.Fresh → Tells tp (unchanged r t (F.Notice n) n m)
   still-tells n a b e = record { over = λ z. e; ended = λ z. (a, b); within = omega arith }
 
-  fresh-tells : r .stage ≡ S.Fresh → Tells tp (firstCall r tp m)
+-- a call by these stamps, which counts the TP
+module _ (r : Receiver) (n : Stamps) (tp m : List ℕ) where
+  abbrev C : Receiver
+  C = countedOf r
+
+  fresh-tells : r .stage ≡ S.Fresh → Tells tp (firstCall r C n tp m)
   unfolding firstCall
   fresh-tells e = by (eqb (streamOf (getD tp 0 0)) (r .stream)) (eqb (versionOf (getD tp 0 0)) 0)
     where
       W : Option ℕ
       W = tpNumberIn (number 0 (take 3 (drop 1 tp)))
 
-      by : (a b : Bool) → Tells tp (cond a (cond b (wordCall W r tp m) (gone r 7 m)) (unchanged r (F.Notice 8) 8 m))
-      by true true = begun-tells W
-      by true false = gone-tells 7 (omega arith) (omega arith)
-      by false b = still-tells 8 (omega arith) (omega arith) e
+      by : (a b : Bool) → Tells tp (cond a (cond b (wordCall W C (n .now) tp m) (gone C (n .now) 7 m)) (unchanged r (n .before) (F.Notice 8) 8 m))
+      by true true = begun-tells C (n .now) tp m W
+      by true false = gone-tells C (n .now) tp m 7 (omega arith) (omega arith)
+      by false b = still-tells r (n .before) tp m 8 (omega arith) (omega arith) e
 
-  staged-tells : (g : Stage) → r .stage ≡ g → Tells tp (stageCall g r tp m)
+  staged-tells : (g : Stage) → r .stage ≡ g → Tells tp (stageCall g r C n tp m)
   unfolding pullOf
   staged-tells S.Fresh e = fresh-tells e
-  staged-tells (S.Low o) e = low-tells (lowsOf tp (r .walk .at)) o (walk-goes tp (r .walk .at))
-  staged-tells (S.Due o) e = due-tells o (r .walk .at)
+  staged-tells (S.Low o) e = low-tells C (n .now) tp m (lowsOf tp (r .walk .at)) o (walk-goes tp (r .walk .at))
+  staged-tells (S.Due o) e = due-tells C (n .now) tp m o (r .walk .at)
   staged-tells S.Plain e =
-      let p = pullOf (length m) (r .walk) tp m in
-      plain-tells (p .find) p
-      (pull-late (length m) (frameOf (r .walk .phase)) (r .walk .at) (heldOf (r .walk .kept) m) m (todoOf (r .walk .phase)) (drop (r .walk .at) tp) (todo-late (r .walk .phase)))
+      let w = r .walk in
+      let p = pullOf (length m) (n .now) w tp m in
+      plain-tells C (n .now) tp m (p .find) p
+      (pull-late (length m) (frameOf (w .began) (w .phase)) (w .at) (heldOf (w .kept) m) m (todoOf (w .began) (w .phase)) (placed (n .now) (w .at) (drop (w .at) tp)) (todo-late (w .began) (w .phase)))
 
   -- with the room of the opening: at a TP of its length, or between two TPs at any
+  pub tells-as : length m ≡ r .limit → length tp ≡ r .size → Tells tp (callAs r n tp m)
+  unfolding callAs
+  tells-as f w = rw (eq-eqb (length m) (r .limit) f, eq-eqb (length tp) (r .size) w) (staged-tells (r .stage) refl)
+
+  pub six-tells-as : length m ≡ r .limit → (length tp ≡ r .size → ⊥) → r .stage ≡ S.Fresh → Tells tp (callAs r n tp m)
+  unfolding callAs
+  six-tells-as f w e = rw (eq-eqb (length m) (r .limit) f, ne-eqb (length tp) (r .size) w) (still-tells r (n .before) tp m 6 (omega arith) (omega arith) e)
+
+-- a call by the receiver's own count
+module _ (r : Receiver) (tp m : List ℕ) where
   pub call-tells : length m ≡ r .limit → length tp ≡ r .size → Tells tp (callOf r tp m)
   unfolding callOf
-  call-tells f w = rw (eq-eqb (length m) (r .limit) f, eq-eqb (length tp) (r .size) w) (staged-tells (r .stage) refl)
+  call-tells f w = tells-as r (stampsOf r) tp m f w
 
   pub six-tells : length m ≡ r .limit → (length tp ≡ r .size → ⊥) → r .stage ≡ S.Fresh → Tells tp (callOf r tp m)
   unfolding callOf
-  six-tells f w e = rw (eq-eqb (length m) (r .limit) f, ne-eqb (length tp) (r .size) w) (still-tells 6 (omega arith) (omega arith) e)
+  six-tells f w e = six-tells-as r (stampsOf r) tp m f w e

@@ -13,22 +13,22 @@ use Rattle.digits.specs.Digits.{number}
 use Rattle.queue.specs.Ring.{copied}
 use Rattle.wire.specs.Reading.{readOf}
 use Rattle.wire.specs.declared.Header.{Header}
+use Rattle.receiver.specs.declared.Place.{Place}
 use Rattle.receiver.specs.declared.walk.Gain.the-variants.{Notice}
 use Rattle.receiver.specs.declared.walk.Kept.{Kept}
 use Rattle.receiver.specs.declared.walk.Kept.the-variants.{Empty, Of}
 use Rattle.receiver.specs.declared.walk.Phase.the-variants.{Lost}
-use Rattle.receiver.specs.Low.{Tag}
 use Rattle.receiver.specs.Turns.{openedOf, stops, wholeOf}
 use Rattle.receiver.specs.InWalk.{pasted}
 use Rattle.wire.specs.declared.Read.the-variants as R
 
-pub beyond-read : (at : ℕ) (k : Kept) (cap : ℕ) (o : Option Header) → readOf o ≡ R.Beyond → stops at Lost Empty (Notice 12) ≡ wholeOf at o k cap
-beyond-read at k cap none e = refl
-beyond-read at k cap (some h) e = cc
+pub beyond-read : (at : ℕ) (g : Place) (k : Kept) (cap : ℕ) (o : Option Header) → readOf o ≡ R.Beyond → stops at Lost g Empty (Notice 12) ≡ wholeOf at o g k cap
+beyond-read at g k cap none e = refl
+beyond-read at g k cap (some h) e = cc
 
-pub whole-read : (at : ℕ) (k : Kept) (cap : ℕ) (h : Header) (o : Option Header) → readOf o ≡ R.Whole h → openedOf at h k cap ≡ wholeOf at o k cap
-whole-read at k cap h none e = cc
-whole-read at k cap h (some x) e = let q : h ≡ x = cc in ap (λ (y : Header). openedOf at y k cap) q
+pub whole-read : (at : ℕ) (g : Place) (k : Kept) (cap : ℕ) (h : Header) (o : Option Header) → readOf o ≡ R.Whole h → openedOf at h g k cap ≡ wholeOf at o g k cap
+whole-read at g k cap h none e = cc
+whole-read at g k cap h (some x) e = let q : h ≡ x = cc in ap (λ (y : Header). openedOf at y g k cap) q
 
 -- the number of some bytes
 
@@ -88,9 +88,9 @@ three-of (a ∷ b ∷ []) l = absurd (omega arith)
 three-of (a ∷ b ∷ c ∷ []) l = absurd (omega arith)
 three-of (a ∷ b ∷ c ∷ d ∷ tp) l = refl
 
-pub put-is : (tp : List ℕ) (at n c sum l : ℕ) (k : Kept) (m m′ : List ℕ) → k ≡ Of c sum l → at + n ≤ length tp → l + n ≤ length m
+pub put-is : (tp : List ℕ) (at n c sum : ℕ) (b : Place) (l : ℕ) (k : Kept) (m m′ : List ℕ) → k ≡ Of c sum b l → at + n ≤ length tp → l + n ≤ length m
     → m′ ≡ copied m l (take (at + n - at) (drop at tp)) → m′ ≡ pasted k m (drop at tp) n
-put-is tp at n c sum l k m m′ e h room g =
+put-is tp at n c sum b l k m m′ e h room g =
     let q : at + n - at ≡ n = omega arith in
     let f = length-take-le n (drop at tp) (omega (arith, length-drop at tp)) in
     let all : min n (length m - l) ≡ n = omega arith in

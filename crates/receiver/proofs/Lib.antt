@@ -1,4 +1,5 @@
 pub mod Gather
+pub mod Placing
 pub mod Run
 pub mod Heading
 pub mod Turning

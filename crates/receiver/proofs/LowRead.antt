@@ -50,15 +50,16 @@ pub record Data-of (tp : List ℕ) (at : ℕ) (h : Header) (c start n : ℕ) : T
   pub place : start ≡ at + 6
   pub size : n ≡ h .size
 
-abbrev pub Low-read : List ℕ → ℕ → ℕ → ℕ → Type 0
-Low-read tp c start n = (at : ℕ) × ((h : Header) × Data-of tp at h c start n)
+-- of one that begins with this byte of the TP
+abbrev pub Low-read : List ℕ → ℕ → ℕ → ℕ → ℕ → Type 0
+Low-read tp at c start n = (h : Header) × Data-of tp at h c start n
 
-abbrev pub LowOk : List ℕ → Find → Type 0
-LowOk tp F.Nothing = 0 ≤ 0
-LowOk tp F.Refused = 0 ≤ 0
-LowOk tp (F.Notice n) = 0 ≤ 0
-LowOk tp (F.Low c start n) = Low-read tp c start n
-LowOk tp (F.Ordinary c n) = 0 ≤ 0
+abbrev pub LowOk : List ℕ → ℕ → Find → Type 0
+LowOk tp at F.Nothing = 0 ≤ 0
+LowOk tp at F.Refused = 0 ≤ 0
+LowOk tp at (F.Notice n) = 0 ≤ 0
+LowOk tp at (F.Low c start n) = Low-read tp at c start n
+LowOk tp at (F.Ordinary c n) = 0 ≤ 0
 
 -- what is read of an LLEP that isn't broken
 
@@ -133,7 +134,7 @@ complete-known h e = kind-known (sortOf (h .content)) (h .fragment) (h .content)
 abbrev pub LowsOk : List ℕ → Lows → Type 0
 LowsOk tp (L.Broken i) = 0 ≤ 0
 LowsOk tp (L.End i) = 0 ≤ 0
-LowsOk tp (L.Gives f e more i) = LowOk tp f
+LowsOk tp (L.Gives f e from more i) = LowOk tp from f
 
 passed-ok : (tp : List ℕ) (k : Kind) (h : Header) (m : Bool) (at : ℕ) (go : ℕ → Lows) → kindOf h ≡ k → 4 ≤ at → llep (drop at tp) ≡ Whole h m
     → ((i : ℕ) → 4 ≤ i → LowsOk tp (go i)) → LowsOk tp (andThen (passedOf k h m at) go)
@@ -158,7 +159,7 @@ passed-ok tp Complete h m at go q b e ih =
       known = subst (λ (c : ℕ). (1 ≤ c) × (c ≤ 6)) c (k .1);
       ended = subst Ends-well z (r .ended);
     } in
-    (at, (g, record { llep = l; content = c; place = refl; size = n }))
+    (g, record { llep = l; content = c; place = refl; size = n })
 passed-ok tp First h m at go q b e ih = omega arith
 passed-ok tp Middle h m at go q b e ih = omega arith
 passed-ok tp Last h m at go q b e ih = omega arith

@@ -7,6 +7,9 @@ use Prim.Native.Nat.{suc, zero, ℕ, _-_, _<_}
 use native.Mathlib.Omega.{arith}
 use lib.ListN.{drop, length}
 use Rattle.receiver.specs.declared.Receiver.{Receiver}
+use Rattle.receiver.specs.declared.Stamp.{Stamp}
+use Rattle.receiver.specs.Pieces.{receiverWith}
+use Rattle.receiver.specs.Place.{placeAt, placed, startOf}
 use Rattle.receiver.specs.declared.Stage.{Stage}
 use Rattle.receiver.specs.declared.low.Lows.{Lows}
 use Rattle.receiver.specs.declared.low.Lows.the-variants as L
@@ -40,26 +43,27 @@ lows-free (suc k) (suc k′) tp at a b =
 
 module _ (r : Receiver) (s : Stage) (w : Walk) where
   abbrev pub to : Receiver
-  to = record { size = r .size; stream = r .stream; limit = r .limit; stage = s; walk = w }
+  to = receiverWith r s w
 
-  plain-same : (x : Option (Finding wire)) (p : Pulled wire) → ordinaryBy x to p ≡ ordinaryBy x r p
-  plain-same none p = refl
-  plain-same (some (notice n)) p = refl
-  plain-same (some (low c d)) p = refl
-  plain-same (some (ordinary c d)) p = refl
+  plain-same : (x : Option (Finding wire)) (t : Stamp) (p : Pulled wire) → ordinaryBy x to t p ≡ ordinaryBy x r t p
+  plain-same none t p = refl
+  plain-same (some (notice n g)) t p = refl
+  plain-same (some (low c d)) t p = refl
+  plain-same (some (ordinary c d)) t p = refl
 
-  pub ordinaryCall-same : (p : Pulled wire) → ordinaryCall to p ≡ ordinaryCall r p
-  ordinaryCall-same p = plain-same (p .find) p
+  pub ordinaryCall-same : (t : Stamp) (p : Pulled wire) → ordinaryCall to t p ≡ ordinaryCall r t p
+  ordinaryCall-same t p = plain-same (p .find) t p
 
-module _ (r : Receiver) (s : Stage) (at o : ℕ) (tp m : List ℕ) where
+module _ (r : Receiver) (t : Stamp) (s : Stage) (at o : ℕ) (tp m : List ℕ) where
   abbrev pub on : Receiver
   on = to r s (walkTo r at)
 
-  pub due-same : (i : ℕ) → dueCall on o i tp m ≡ dueCall r o i tp m
+  pub due-same : (i : ℕ) → dueCall on t o i tp m ≡ dueCall r t o i tp m
   unfolding dueCall
-  due-same i = ordinaryCall-same r s (walkTo r at) (from (length m) (outset wire (frameOf (r .walk .phase)) o (i - 4) (drop i tp)) (walkTo r i) tp m)
+  due-same i = ordinaryCall-same r s (walkTo r at) t
+      (from (length m) t (outset wire (startOf t) (frameOf (r .walk .began) (r .walk .phase)) o (i - 4) (placed t i (drop i tp))) (walkTo r i) tp m)
 
-  pub low-same : (x : Lows) → lowCall x on o tp m ≡ lowCall x r o tp m
-  low-same (L.Broken i) = ordinaryCall-same r s (walkTo r at) (from (length m) (dropped wire 11 (drop i tp)) (walkTo r i) tp m)
+  pub low-same : (x : Lows) → lowCall x on t o tp m ≡ lowCall x r t o tp m
+  low-same (L.Broken i) = ordinaryCall-same r s (walkTo r at) t (from (length m) t (dropped wire 11 (placeAt t i) (placed t i (drop i tp))) (walkTo r i) tp m)
   low-same (L.End i) = due-same i
-  low-same (L.Gives f e more i) = refl
+  low-same (L.Gives f e b more i) = refl

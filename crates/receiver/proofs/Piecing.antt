@@ -6,7 +6,7 @@ use lib.ListN.{length}
 use Rattle.receiver.specs.declared.Receiver.{Receiver}
 use Rattle.receiver.specs.declared.entry.Top.{Top}
 use Rattle.receiver.specs.declared.low.Llep.{Llep}
-use Rattle.receiver.specs.declared.outset.Place.{Place}
+use Rattle.receiver.specs.declared.outset.Offset.{Offset}
 use Rattle.receiver.specs.declared.outset.Start.{Start}
 use Rattle.receiver.specs.declared.walk.Turn.{Turn}
 use Rattle.receiver.specs.declared.walk.Turn.the-variants.{More, Stop}
@@ -23,8 +23,8 @@ module _ (r : Receiver) where
   pub out-turn : (t u : Start) (n len : ℕ) → t ≡ u → outTurn u r n len ≡ outTurn t r n len
   out-turn t u n len e = ap (λ (t : Start). outTurn t r n len) (sym e)
 
-  pub due-turn : (t u : Place) (tp : List ℕ) → t ≡ u → dueTurn u r tp ≡ dueTurn t r tp
-  due-turn t u tp e = ap (λ (t : Place). dueTurn t r tp) (sym e)
+  pub due-turn : (t u : Offset) (tp : List ℕ) → t ≡ u → dueTurn u r tp ≡ dueTurn t r tp
+  due-turn t u tp e = ap (λ (t : Offset). dueTurn t r tp) (sym e)
 
   pub plain-turn : (t u : Turn) → t ≡ u → ordinaryTurn u r ≡ ordinaryTurn t r
   plain-turn t u e = ap (λ (t : Turn). ordinaryTurn t r) (sym e)

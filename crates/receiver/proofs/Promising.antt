@@ -18,8 +18,8 @@ use Rattle.receiver.specs.declared.low.Llep.{Llep}
 use Rattle.receiver.specs.declared.low.Llep.the-variants.{Broken, Whole}
 use Rattle.receiver.specs.declared.outset.Fore.{Fore}
 use Rattle.receiver.specs.declared.outset.Fore.the-variants.{At, Bad, Off}
-use Rattle.receiver.specs.declared.outset.Place.{Place}
-use Rattle.receiver.specs.declared.outset.Place.the-variants.{Behind, Outside}
+use Rattle.receiver.specs.declared.outset.Offset.{Offset}
+use Rattle.receiver.specs.declared.outset.Offset.the-variants.{Behind, Outside}
 use Rattle.receiver.specs.declared.outset.Start.{Start}
 use Rattle.receiver.specs.declared.outset.Start.the-variants as S
 use Rattle.receiver.specs.declared.walk.Gain.{Gain}
@@ -28,14 +28,14 @@ use Rattle.receiver.specs.declared.walk.Kept.the-variants.{Empty}
 use Rattle.receiver.specs.declared.walk.Turn.{Turn}
 use Rattle.receiver.specs.declared.walk.Turn.the-variants.{More, Stop}
 use Rattle.receiver.specs.declared.walk.Walk.{Walk}
-use Rattle.receiver.specs.Call.{stageCall, walkTo}
+use Rattle.receiver.specs.Call.{walkTo}
 use Rattle.receiver.specs.Join.{ordinary}
 use Rattle.receiver.specs.Kind.{kindOf}
 use Rattle.receiver.specs.Low.{llep}
 use Rattle.receiver.specs.Lows.{toldOf}
 use Rattle.receiver.specs.Turns.{advanceOf, toil}
 use Rattle.receiver.specs.Outset.{foreOf, outBy, placeOf, setOutOf, uponOf}
-use Rattle.receiver.specs.Pieces.{dueTurn, gaveOf, llepTurn, outTurn, ordinaryTurn, readOf, roleOf, sameTurn, stageTurn, topTurn, turnOf, tellOf, topOf}
+use Rattle.receiver.specs.Pieces.{dueTurn, gaveOf, llepTurn, outTurn, ordinaryTurn, readOf, roleOf, sameTurn, stageTurn, stampOf, topTurn, turnOf, tellOf, topOf}
 use Rattle.receiver.specs.Turn.{Fits, LessIf, Nearer, TurnedAs, Within, effort, effortBy, goesOn}
 use Rattle.receiver.specs.InWalk.{Carries, roomOf}
 use Rattle.receiver.specs.State.{Able, Sound, from}
@@ -45,7 +45,7 @@ use Rattle.receiver.proofs.Parting.{behind-in}
 use Rattle.receiver.proofs.TakingUp.{drops-small}
 use Rattle.receiver.proofs.Heading.{Bytes}
 use Rattle.receiver.proofs.Walking.{inside-at}
-use Rattle.receiver.proofs.Making.{able-by, stage-made}
+use Rattle.receiver.proofs.Making.{able-by, stage-made, staged}
 
 -- a piece lies within the TP
 
@@ -71,22 +71,22 @@ module _ (r : Receiver) (tp : List ℕ) (able : Able r) (whole : length tp ≡ r
       by true = record { from = omega arith; to = here; fits = omega arith }
       by false = record { from = omega arith; to = l; fits = omega arith }
 
-  due-in : (o : ℕ) (p : Place) → placeOf o (r .walk .at) (length tp) ≡ p → Within (dueTurn p r tp .piece) (length tp) (r .limit)
+  due-in : (o : ℕ) (p : Offset) → placeOf o (r .walk .at) (length tp) ≡ p → Within (dueTurn p r tp .piece) (length tp) (r .limit)
   unfolding setOutOf
   due-in o (Outside n) e = record { from = here; to = omega arith; fits = omega arith }
   due-in o (Behind n) e = out-in n (foreOf (r .walk .phase) (drop (r .walk .at) tp)) (behind-in o (r .walk .at) (length tp) n here e)
 
-  turned-in : (t : Turn) (m m′ : List ℕ) → Carries (r .limit) (r .walk) tp m t m′ → walkOf t .at ≤ length tp
+  turned-in : (t : Turn) (m m′ : List ℕ) → Carries (r .limit) (stampOf r) (r .walk) tp m t m′ → walkOf t .at ≤ length tp
   unfolding Carries
   turned-in (More x) m m′ t = t .sound .at
   turned-in (Stop a) m m′ t = t .sound .at
 
-  plain-in : Within (ordinaryTurn (advanceOf (r .limit) (r .walk) tp) r .piece) (length tp) (r .limit)
+  plain-in : Within (ordinaryTurn (advanceOf (r .limit) (stampOf r) (r .walk) tp) r .piece) (length tp) (r .limit)
   plain-in =
       let m : List ℕ = replicate (r .limit) 0 in
       let s = subst (λ (n : ℕ). Sound (r .limit) n (r .walk)) (sym whole) (able .walk) in
-      let t = advanceOf (r .limit) (r .walk) tp in
-      by t (advance-ahead (r .limit) (r .walk) tp here) (turned-in t m (roomOf (r .walk) tp m) (advance-carries (r .limit) tp m (length-replicate (r .limit) 0) bytes (r .walk) s)) (advance-fits (r .limit) (r .walk) tp s)
+      let t = advanceOf (r .limit) (stampOf r) (r .walk) tp in
+      by t (advance-ahead (r .limit) (stampOf r) (r .walk) tp here) (turned-in t m (roomOf (r .walk) tp m) (advance-carries (r .limit) (stampOf r) tp m (length-replicate (r .limit) 0) bytes (r .walk) s)) (advance-fits (r .limit) (stampOf r) (r .walk) tp s)
     where
       by : (t : Turn) → r .walk .at ≤ walkOf t .at → walkOf t .at ≤ length tp → Fits (roleOf (r .walk .phase) (r .walk .kept) (walkOf t .phase)) (walkOf t .at - r .walk .at) (r .limit)
           → Within (ordinaryTurn t r .piece) (length tp) (r .limit)
@@ -134,9 +134,9 @@ module _ (r : Receiver) (tp : List ℕ) (able : Able r) (whole : length tp ≡ r
 
   out-near : (o n : ℕ) (s : Start) → NearBy (Due o) (outTurn s r n (length tp))
   out-near o n (S.Reads x) = omega (arith, plain-near x)
-  out-near o n (S.Loses i) = sure (ltb 9 i) _ _ (omega (arith, plain-near (record { at = r .walk .at + n; phase = uponOf (r .walk .at + n) (length tp); kept = Empty })))
+  out-near o n (S.Loses i) = sure (ltb 9 i) _ _ (omega (arith, plain-near (record { at = r .walk .at + n; phase = uponOf (r .walk .at + n) (length tp); began = r .walk .began; kept = Empty })))
 
-  due-near : (o : ℕ) (p : Place) → NearBy (Due o) (dueTurn p r tp)
+  due-near : (o : ℕ) (p : Offset) → NearBy (Due o) (dueTurn p r tp)
   due-near o (Outside n) = sure (ltb 9 n) _ _ (omega arith)
   due-near o (Behind n) = out-near o n (setOutOf (r .walk) n tp)
 
@@ -144,17 +144,17 @@ module _ (r : Receiver) (tp : List ℕ) (able : Able r) (whole : length tp ≡ r
   tell-near (More x) l = omega arith
   tell-near (Stop a) l = by (a .gain) l
     where
-      by : (g : Gain) → LessBy g (toil (length tp) (a .walk)) (toil (length tp) (r .walk)) → NearBy Plain (gaveOf (tellOf g r (a .walk)) (readOf (r .walk) (a .walk)))
+      by : (g : Gain) → LessBy g (toil (length tp) (a .walk)) (toil (length tp) (r .walk)) → NearBy Plain (gaveOf (tellOf g r (stampOf r) (a .walk)) (readOf (r .walk) (a .walk)))
       by G.Nothing l = omega arith
       by (G.Notice n) l = sure (ltb 9 n) _ _ (omega arith)
-      by (G.Packet c sum n) l = omega arith
+      by (G.Packet c sum b n) l = omega arith
 
   stage-near : (g : Stage) → NearBy g (stageTurn g r tp)
   stage-near Fresh = top-near (topOf (r .stream) tp) refl
   stage-near (Low o) = llep-near o (llep (drop (r .walk .at) tp)) refl
   stage-near (Due o) = due-near o (placeOf o (r .walk .at) (length tp))
   stage-near Plain =
-      tell-near (advanceOf (r .limit) (r .walk) tp) (advance-less (r .limit) (r .walk) tp (subst (λ (n : ℕ). Sound (r .limit) n (r .walk)) (sym whole) (able .walk)))
+      tell-near (advanceOf (r .limit) (stampOf r) (r .walk) tp) (advance-less (r .limit) (stampOf r) (r .walk) tp (subst (λ (n : ℕ). Sound (r .limit) n (r .walk)) (sym whole) (able .walk)))
 
 abbrev Promised : Receiver → List ℕ → D.Turned → Type 0
 Promised r tp q = Able (q .receiver) × Within (q .piece) (length tp) (r .limit) × Nearer (q .told) (length tp) r (q .receiver)
@@ -171,9 +171,9 @@ turn-as r tp q a b e = let p = subst (Promised r tp) (sym e) (by (eqb (length tp
     by true e =
         let w = eqb-true (length tp) (r .size) e in
         let t = stageTurn (r .stage) r tp in
-        let x = stageCall (r .stage) r tp m in
+        let x = staged r tp m in
         let d = stage-made r tp m a w (length-replicate (r .limit) 0) b (r .stage) (a .stage) in
-        (able-by (t .told) (t .about) (r .stage) x r tp m (t .receiver) _ d, stage-in r tp a w b (r .stage), stage-near r tp a w (r .stage))
+        (able-by (t .told) (t .about) x r tp m (t .receiver) _ d, stage-in r tp a w b (r .stage), stage-near r tp a w (r .stage))
     by false e = (a, record { from = omega arith; to = omega arith; fits = omega arith }, omega arith)
 
 pub turn-six : (r : Receiver) (tp : List ℕ) → (r .size ≡ length tp → ⊥) → sameTurn r 6 ≡ turnOf r tp

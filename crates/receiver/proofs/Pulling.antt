@@ -46,7 +46,7 @@ module _ (C : Code) (cap : ℕ) where
   abbrev then-does : List (Finding C) → Does → Does
   then-does fs d = (fs ++ d .0, d .1)
 
-  met-rest : (T : Took C) (m : List (C .B)) (es more : List (Event C))
+  met-rest : (T : Took C) (m : List (C .K)) (es more : List (Event C))
       → does (T .0) (es ++ more) ≡ then-does (met-find (meet C cap (T .0) m es)) (does (stands (meet C cap (T .0) m es)) (left (meet C cap (T .0) m es) ++ more))
       → then-does (listed C (T .1)) (does (T .0) (es ++ more))
       ≡ then-does (met-find (met C (T .1) (T .0) m es (meet C cap (T .0) m es)))
@@ -54,7 +54,7 @@ module _ (C : Code) (cap : ℕ) where
   met-rest (s, none) m es more e = e
   met-rest (s, some x) m es more e = refl
 
-  meet-rest : (s : Held C) (m : List (C .B)) (es more : List (Event C))
+  meet-rest : (s : Held C) (m : List (C .K)) (es more : List (Event C))
       → does s (es ++ more) ≡ then-does (met-find (meet C cap s m es)) (does (stands (meet C cap s m es)) (left (meet C cap s m es) ++ more))
   meet-rest s m [] more = refl
   meet-rest s m (e ∷ es) more =
@@ -73,7 +73,7 @@ module _ (C : Code) (cap : ℕ) where
       ∙ pulled-rest tp bs (o .0) (suc at) (meet C cap s m (o .1)) (drop-next b bs tp at e)
 
   -- from events still to be taken in and bytes still to be read, a call takes the first find
-  pub pulled-first : (tp : List (C .B)) (f : Frame C) (at : ℕ) (s : Held C) (m : List (C .B)) (es : List (Event C)) (p : Pulled C)
+  pub pulled-first : (tp : List (C .B)) (f : Frame C) (at : ℕ) (s : Held C) (m : List (C .K)) (es : List (Event C)) (p : Pulled C)
       → pull C cap f at (meet C cap s m es) (drop at tp) ≡ p
       → coming s es f (drop at tp) ≡ ahead-of (listed C (p .find)) (coming (p .held) (p .todo) (p .frame) (drop (p .at) tp))
   pulled-first tp f at s m es p e =
@@ -89,7 +89,7 @@ module _ (C : Code) (cap : ℕ) where
   none-met tp [] f at (dry s m) e q = (refl, e)
   none-met tp (b ∷ bs) f at (dry s m) e q = none-met tp bs (step C f b .0) (suc at) (meet C cap s m (step C f b .1)) (drop-next b bs tp at e) q
 
-  pub none-left : (tp : List (C .B)) (f : Frame C) (at : ℕ) (s : Held C) (m : List (C .B)) (es : List (Event C)) (p : Pulled C)
+  pub none-left : (tp : List (C .B)) (f : Frame C) (at : ℕ) (s : Held C) (m : List (C .K)) (es : List (Event C)) (p : Pulled C)
       → pull C cap f at (meet C cap s m es) (drop at tp) ≡ p → p .find ≡ none → coming s es f (drop at tp) ≡ ([], (p .held, p .frame))
   none-left tp f at s m es p e q =
       let z = none-met tp (drop at tp) f at (meet C cap s m es) refl (ap (λ (p : Pulled C). p .find) e ∙ q) in

@@ -11,6 +11,9 @@ use borrow.Author.Tests.{eq-eqb, ne-eqb}
 use Rattle.digits.specs.Digits.{number}
 use Rattle.wire.specs.Reading.{streamOf, tpNumberIn, tpWordOf, versionOf}
 use Rattle.receiver.specs.declared.Receiver.{Receiver}
+use Rattle.receiver.specs.declared.Stamp.{Stamp}
+use Rattle.receiver.specs.declared.stages.Stamps.{Stamps}
+use Rattle.receiver.specs.Place.{startOf}
 use Rattle.receiver.specs.declared.Stage.{Stage}
 use Rattle.receiver.specs.declared.Stage.the-variants.{Due, Fresh, Low, Plain}
 use Rattle.receiver.specs.declared.Step.{Step}
@@ -20,7 +23,7 @@ use Rattle.receiver.specs.declared.entry.Top.the-variants.{Dropped, Else
 use Rattle.receiver.specs.declared.stages.Course.{Course}
 use Rattle.receiver.specs.declared.walk.Kept.the-variants.{Empty}
 use Rattle.receiver.specs.declared.walk.Phase.the-variants.{Lost}
-use Rattle.receiver.specs.Call.{Gave, wordCall, payloadCall, firstCall, gone, stageCall, unchanged}
+use Rattle.receiver.specs.Call.{Gave, countedOf, wordCall, payloadCall, firstCall, gone, stageCall, unchanged}
 use Rattle.receiver.specs.State.{Able, Staged}
 use Rattle.receiver.specs.Pieces.{sameOf, saysOf, stepOf, topOf}
 use Rattle.receiver.specs.InStages.{Begins, Leads, Lent, PartAt, partCall}
@@ -33,11 +36,11 @@ use Rattle.receiver.specs.declared.stages.Course.the-variants as C
 
 -- where a call takes a TP up
 
-begins-by : (g h : List ℕ → Gave) (r : Receiver) (tp : List ℕ) (x : Begun) → ((m : List ℕ) → h m ≡ g m) → Begins h r tp x → Begins g r tp x
+begins-by : (g h : List ℕ → Gave) (r : Receiver) (t : Stamp) (tp : List ℕ) (x : Begun) → ((m : List ℕ) → h m ≡ g m) → Begins h r t tp x → Begins g r t tp x
 unfolding Begins
-begins-by g h r tp (B.Gives s) e l = leads-by g h r tp (C.Gives s) e l
-begins-by g h r tp (B.Part low o at) e l = record { same = λ m. l .same m ∙ e m; small = l .small; lent = l .lent }
-begins-by g h r tp B.Plain e l = leads-by g h r tp (C.Reads (r .walk)) e l
+begins-by g h r t tp (B.Gives s) e l = leads-by g h r t tp (C.Gives s) e l
+begins-by g h r t tp (B.Part low o at) e l = record { same = λ m. l .same m ∙ e m; small = l .small; lent = l .lent }
+begins-by g h r t tp B.Plain e l = leads-by g h r t tp (C.Reads (r .walk)) e l
 
 -- what a TP's header says
 
@@ -91,58 +94,65 @@ module _ (stream : ℕ) (tp : List ℕ) where
       by true false o e = let q : 7 ≡ n = cc in omega arith
       by false b o e = let z : _≡_ {A = ℕ} 0 1 = cc in omega arith
 
+pub counted-lent : (r : Receiver) (at : ℕ) (tp : List ℕ) → Lent r at tp → Lent (countedOf r) at tp
+counted-lent r at tp l = record { size = l .size; whole = l .whole; payload = l .payload; walk = l .walk; settled = l .settled }
+
 -- a TP's first call, by what its header says
 
-abbrev pub freshBy : Top → Receiver → List ℕ → List ℕ → Gave
-freshBy Elsewhere r tp m = unchanged r (F.Notice 8) 8 m
-freshBy (Dropped n) r tp m = gone r n m
-freshBy (Says low o) r tp m = payloadCall low r o tp m
+abbrev pub freshBy : Top → Receiver → Stamps → List ℕ → List ℕ → Gave
+freshBy Elsewhere r n tp m = unchanged r (n .before) (F.Notice 8) 8 m
+freshBy (Dropped k) r n tp m = gone (countedOf r) (n .now) k m
+freshBy (Says low o) r n tp m = payloadCall low (countedOf r) (n .now) o tp m
 
-pub fresh-top : (r : Receiver) (tp m : List ℕ) → freshBy (topOf (r .stream) tp) r tp m ≡ firstCall r tp m
+pub fresh-top : (r : Receiver) (n : Stamps) (tp m : List ℕ) → freshBy (topOf (r .stream) tp) r n tp m ≡ firstCall r (countedOf r) n tp m
 unfolding topOf firstCall
-fresh-top r tp m = by (eqb (streamOf (getD tp 0 0)) (r .stream)) (eqb (versionOf (getD tp 0 0)) 0) (word 0 tp)
+fresh-top r n tp m = by (eqb (streamOf (getD tp 0 0)) (r .stream)) (eqb (versionOf (getD tp 0 0)) 0) (word 0 tp)
   where
     by : (a b : Bool) (o : Option ℕ)
-        → freshBy (cond a (cond b (saysOf o) (Dropped 7)) Elsewhere) r tp m ≡ cond a (cond b (wordCall o r tp m) (gone r 7 m)) (unchanged r (F.Notice 8) 8 m)
+        → freshBy (cond a (cond b (saysOf o) (Dropped 7)) Elsewhere) r n tp m
+        ≡ cond a (cond b (wordCall o (countedOf r) (n .now) tp m) (gone (countedOf r) (n .now) 7 m)) (unchanged r (n .before) (F.Notice 8) 8 m)
     by true true none = refl
     by true true (some w) = refl
     by true false o = refl
     by false b o = refl
 
-abbrev pub firstBy : Top → Receiver → Begun
-firstBy Elsewhere r = B.Gives (sameOf r (F.Notice 8))
-firstBy (Dropped n) r = B.Gives (stepOf r Fresh 0 Lost Empty (F.Notice n))
-firstBy (Says low o) r = B.Part low o 4
+abbrev pub firstBy : Top → Receiver → Stamps → Begun
+firstBy Elsewhere r n = B.Gives (sameOf r (F.Notice 8) (startOf (n .before)))
+firstBy (Dropped k) r n = B.Gives (stepOf (countedOf r) Fresh 0 Lost Empty (F.Notice k) (startOf (n .now)))
+firstBy (Says low o) r n = B.Part low o 4
 
-module _ (r : Receiver) (tp : List ℕ) where
-  gone-begins : (n : ℕ) → 16 ≤ r .size → length tp ≡ r .size → Begins (gone r n) r tp (B.Gives (stepOf r Fresh 0 Lost Empty (F.Notice n)))
-  unfolding Begins
-  gone-begins n size whole = λ m f. gone-gives r tp m size whole f n
+module _ (r : Receiver) (n : Stamps) (tp : List ℕ) where
+  abbrev c : Receiver
+  c = countedOf r
 
-  part-begins : (low : Bool) (n : ℕ) → n < 2048 → Lent r 4 tp → Begins (payloadCall low r n tp) r tp (B.Part low n 4)
+  gone-begins : (k : ℕ) → 16 ≤ r .size → length tp ≡ r .size → Begins (gone c (n .now) k) c (n .now) tp (B.Gives (stepOf c Fresh 0 Lost Empty (F.Notice k) (startOf (n .now))))
   unfolding Begins
-  part-begins low n s l = record { same = λ m. same low m; small = s; lent = l }
+  gone-begins k size whole = λ m f. gone-gives c (n .now) tp m size whole f k
+
+  part-begins : (low : Bool) (o : ℕ) → o < 2048 → Lent r 4 tp → Begins (payloadCall low c (n .now) o tp) c (n .now) tp (B.Part low o 4)
+  unfolding Begins
+  part-begins low o s l = record { same = λ m. same low m; small = s; lent = counted-lent r 4 tp l }
     where
-      same : (low : Bool) (m : List ℕ) → partCall low r n 4 tp m ≡ payloadCall low r n tp m
+      same : (low : Bool) (m : List ℕ) → partCall low c (n .now) o 4 tp m ≡ payloadCall low c (n .now) o tp m
       same true m = refl
       same false m = refl
 
-  top-by : (t : Top) → topOf (r .stream) tp ≡ t → Able r → Lent r 4 tp → Begins (freshBy t r tp) r tp (firstBy t r)
+  top-by : (x : Top) → topOf (r .stream) tp ≡ x → Able r → Lent r 4 tp → Begins (freshBy x r n tp) c (n .now) tp (firstBy x r n)
   unfolding Begins
-  top-by Elsewhere e a l = λ m u. same-gives r tp m 8 a
-  top-by (Dropped n) e a l = gone-begins n (l .size) (l .whole)
+  top-by Elsewhere e a l = λ m u. same-gives r (n .before) tp m 8 a
+  top-by (Dropped k) e a l = gone-begins k (l .size) (l .whole)
   top-by (Says low o) e a l = part-begins low o (says-small (r .stream) tp low o e) l
 
-  pub top-begins : (t : Top) → topOf (r .stream) tp ≡ t → Able r → Lent r 4 tp → Begins (firstCall r tp) r tp (firstBy t r)
-  top-begins t e a l =
-      begins-by (firstCall r tp) (freshBy t r tp) r tp (firstBy t r) (λ m. ap (λ (t : Top). freshBy t r tp m) (sym e) ∙ fresh-top r tp m) (top-by t e a l)
+  pub top-begins : (x : Top) → topOf (r .stream) tp ≡ x → Able r → Lent r 4 tp → Begins (firstCall r c n tp) c (n .now) tp (firstBy x r n)
+  top-begins x e a l =
+      begins-by (firstCall r c n tp) (freshBy x r n tp) c (n .now) tp (firstBy x r n) (λ m. ap (λ (x : Top). freshBy x r n tp m) (sym e) ∙ fresh-top r n tp m) (top-by x e a l)
 
-  staged-by : (x : Begun) (g : Stage) (h : List ℕ → Gave) → r .stage ≡ g → ((m : List ℕ) → h m ≡ stageCall g r tp m) → Begins h r tp x
-      → Begins (stageCall (r .stage) r tp) r tp x
-  staged-by x g h e s l = begins-by (stageCall (r .stage) r tp) h r tp x (λ m. s m ∙ ap (λ (g : Stage). stageCall g r tp m) (sym e)) l
+  staged-by : (x : Begun) (g : Stage) (h : List ℕ → Gave) → r .stage ≡ g → ((m : List ℕ) → h m ≡ stageCall g r c n tp m) → Begins h c (n .now) tp x
+      → Begins (stageCall (r .stage) r c n tp) c (n .now) tp x
+  staged-by x g h e s l = begins-by (stageCall (r .stage) r c n tp) h c (n .now) tp x (λ m. s m ∙ ap (λ (g : Stage). stageCall g r c n tp m) (sym e)) l
 
-  pub first-begins : (x : Begun) → r .stage ≡ Fresh → Begins (firstCall r tp) r tp x → Begins (stageCall (r .stage) r tp) r tp x
-  first-begins x e g = staged-by x Fresh (firstCall r tp) e (λ m. refl) g
+  pub first-begins : (x : Begun) → r .stage ≡ Fresh → Begins (firstCall r c n tp) c (n .now) tp x → Begins (stageCall (r .stage) r c n tp) c (n .now) tp x
+  first-begins x e g = staged-by x Fresh (firstCall r c n tp) e (λ m. refl) g
 
   pub first-lent : Able r → length tp ≡ r .size → r .stage ≡ Fresh → Lent r 4 tp
   first-lent a w e =
@@ -150,44 +160,44 @@ module _ (r : Receiver) (tp : List ℕ) where
       let g : Staged Fresh (r .walk) = subst (λ (g : Stage). Staged g (r .walk)) e (a .stage) in
       record { size = a .size; whole = w; payload = omega arith; walk = record { at = omega arith; phase = a .walk .phase }; settled = g }
 
-  pub low-begins : (o : ℕ) → Able r → length tp ≡ r .size → r .stage ≡ Low o → Begins (stageCall (r .stage) r tp) r tp (B.Part true o (r .walk .at))
+  pub low-begins : (o : ℕ) → Able r → length tp ≡ r .size → r .stage ≡ Low o → Begins (stageCall (r .stage) r c n tp) c (n .now) tp (B.Part true o (r .walk .at))
   unfolding Begins
   low-begins o a w e =
       let g : Staged (Low o) (r .walk) = subst (λ (g : Stage). Staged g (r .walk)) e (a .stage) in
       record {
-        same = λ m. ap (λ (g : Stage). stageCall g r tp m) (sym e);
+        same = λ m. ap (λ (g : Stage). stageCall g r c n tp m) (sym e);
         small = g .0;
         lent = record { size = a .size; whole = w; payload = g .1; walk = a .walk; settled = g .2 };
       }
 
-  pub due-begins : (o : ℕ) → Able r → length tp ≡ r .size → r .stage ≡ Due o → Begins (stageCall (r .stage) r tp) r tp (B.Part false o (r .walk .at))
+  pub due-begins : (o : ℕ) → Able r → length tp ≡ r .size → r .stage ≡ Due o → Begins (stageCall (r .stage) r c n tp) c (n .now) tp (B.Part false o (r .walk .at))
   unfolding Begins
   due-begins o a w e =
       let g : Staged (Due o) (r .walk) = subst (λ (g : Stage). Staged g (r .walk)) e (a .stage) in
       record {
-        same = λ m. ap (λ (g : Stage). stageCall g r tp m) (sym e);
+        same = λ m. ap (λ (g : Stage). stageCall g r c n tp m) (sym e);
         small = g .0;
         lent = record { size = a .size; whole = w; payload = g .1; walk = a .walk; settled = g .2 };
       }
 
-  pub plain-begins : Able r → r .stage ≡ Plain → Begins (stageCall (r .stage) r tp) r tp B.Plain
+  pub plain-begins : Able r → r .stage ≡ Plain → Begins (stageCall (r .stage) r c n tp) c (n .now) tp B.Plain
   unfolding Begins
-  plain-begins a e = record { same = λ m f. ap (λ (g : Stage). stageCall g r tp m) (sym e); sound = a .walk }
+  plain-begins a e = record { same = λ m f. ap (λ (g : Stage). stageCall g r c n tp m) (sym e); sound = a .walk }
 
 -- and where that leads
 
-module _ (g : List ℕ → Gave) (r : Receiver) (tp : List ℕ) (x : Begun) (b : Begins g r tp x) where
-  pub find-leads : (s : Step) → x ≡ B.Gives s → Leads g r tp (C.Gives s)
+module _ (g : List ℕ → Gave) (r : Receiver) (t : Stamp) (tp : List ℕ) (x : Begun) (b : Begins g r t tp x) where
+  pub find-leads : (s : Step) → x ≡ B.Gives s → Leads g r t tp (C.Gives s)
   unfolding Begins
-  find-leads s e = subst (Begins g r tp) e b
+  find-leads s e = subst (Begins g r t tp) e b
 
-  pub part-at : (low : Bool) (o at : ℕ) → x ≡ B.Part low o at → PartAt g r tp low o at
+  pub part-at : (low : Bool) (o at : ℕ) → x ≡ B.Part low o at → PartAt g r t tp low o at
   unfolding Begins
-  part-at low o at e = subst (Begins g r tp) e b
+  part-at low o at e = subst (Begins g r t tp) e b
 
-  pub part-leads : (low : Bool) (o at : ℕ) (q : Course) → x ≡ B.Part low o at → Leads (partCall low r o at tp) r tp q → Leads g r tp q
-  part-leads low o at q e l = leads-by g (partCall low r o at tp) r tp q (part-at low o at e .same) l
+  pub part-leads : (low : Bool) (o at : ℕ) (q : Course) → x ≡ B.Part low o at → Leads (partCall low r t o at tp) r t tp q → Leads g r t tp q
+  part-leads low o at q e l = leads-by g (partCall low r t o at tp) r t tp q (part-at low o at e .same) l
 
-  pub plain-leads : x ≡ B.Plain → Leads g r tp (C.Reads (r .walk))
+  pub plain-leads : x ≡ B.Plain → Leads g r t tp (C.Reads (r .walk))
   unfolding Begins
-  plain-leads e = subst (Begins g r tp) e b
+  plain-leads e = subst (Begins g r t tp) e b

@@ -111,8 +111,8 @@ pub inside-at : (tp : List ℕ) (at : ℕ) (h : Header) (m : Bool) → llep (dro
 inside-at tp at h m e = omega (arith, llep-in (drop at tp) h m e, length-drop at tp)
 
 pub passed-by : (k : Kind) (h : Header) (m : Bool) (at : ℕ) (t u : Told) → t ≡ toldOf k h at → t ≡ u
-    → passedBy u (repairedOf k h) m (at + 7 + h .size) ≡ passedOf k h m at
-passed-by k h m at t u e q = ap (λ (t : Told). passedBy t (repairedOf k h) m (at + 7 + h .size)) (sym q ∙ e)
+    → passedBy u (repairedOf k h) at m (at + 7 + h .size) ≡ passedOf k h m at
+passed-by k h m at t u e q = ap (λ (t : Told). passedBy t (repairedOf k h) at m (at + 7 + h .size)) (sym q ∙ e)
 
 -- the loop: the walk from `at` says what the walk from `start` says
 
@@ -153,7 +153,7 @@ stops-at tp start at r e (k, (h, w)) = rw e at w
 abbrev pub place : Lows → ℕ
 place (L.Broken i) = i
 place (L.End i) = i
-place (L.Gives f e more i) = i
+place (L.Gives f e b more i) = i
 
 abbrev Between : ℕ → Lows → ℕ → Type 0
 Between a r z = (a ≤ place r) × (place r ≤ z)

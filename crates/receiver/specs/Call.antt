@@ -9,19 +9,28 @@ use lib.Dec.{ltb, leb, eqb}
 use lib.ListN.{length, take, drop, getD}
 use Rattle.digits.specs.Digits.{number}
 use Rattle.wire.specs.Reading.{tpNumberIn, streamOf, versionOf}
+use Rattle.receiver.specs.declared.About.{About}
 use Rattle.receiver.specs.declared.Find.{Find}
 use Rattle.receiver.specs.declared.Find.the-variants as F
 use Rattle.receiver.specs.declared.Opened.{Opened}
 use Rattle.receiver.specs.declared.Opened.the-variants as O
+use Rattle.receiver.specs.declared.Unfinished.{Unfinished}
+use Rattle.receiver.specs.declared.Unfinished.the-variants as P
+use Rattle.receiver.specs.declared.Place.{Place}
 use Rattle.receiver.specs.declared.Receiver.{Receiver}
+use Rattle.receiver.specs.declared.Stamp.{Stamp}
 use Rattle.receiver.specs.declared.Stage.{Stage}
 use Rattle.receiver.specs.declared.Stage.the-variants.{Fresh, Low, Due, Plain}
 use Rattle.receiver.specs.declared.Step.{Step}
 use Rattle.receiver.specs.declared.low.Lows.{Lows}
 use Rattle.receiver.specs.declared.low.Lows.the-variants as L
-use Rattle.receiver.specs.declared.walk.Kept.the-variants.{Empty}
-use Rattle.receiver.specs.declared.walk.Phase.the-variants.{Lost}
+use Rattle.receiver.specs.declared.stages.Stamps.{Stamps}
+use Rattle.receiver.specs.declared.walk.Kept.{Kept}
+use Rattle.receiver.specs.declared.walk.Kept.the-variants.{Empty, Of}
+use Rattle.receiver.specs.declared.walk.Phase.{Phase}
+use Rattle.receiver.specs.declared.walk.Phase.the-variants.{Lost, Head, Judged, Body}
 use Rattle.receiver.specs.declared.walk.Walk.{Walk}
+use Rattle.receiver.specs.Place.{placeAt, startOf, placed, ownOf, countOf}
 use Rattle.receiver.specs.Frame.{Frame, lost, Event}
 use Rattle.receiver.specs.Forecast.{Start, outset, dropped}
 use Rattle.receiver.specs.Join.{Held, free, held, Finding, notice, low, ordinary}
@@ -46,21 +55,22 @@ dataOf (F.Notice n) tp m = []
 dataOf (F.Low c start n) tp m = take n (drop start tp)
 dataOf (F.Ordinary c n) tp m = take n m
 
--- an answer, its number, its data, and the total repaired that it carries: "a notice 0", as none and 1
+-- an answer, its number, its data, the total repaired that it carries: "a notice 0", as none and 1; and its place
 pub record Said : Type 0 where
   pub find : Find
   pub number : Option ℕ
   pub bytes : List ℕ
   pub repaired : ℕ
+  pub place : Place
 
-abbrev pub saidOf : Find → ℕ → List ℕ → List ℕ → Said
-saidOf f e tp m = record { find = f; number = findNumber f; bytes = dataOf f tp m; repaired = e }
+abbrev pub saidOf : Find → About → List ℕ → List ℕ → Said
+saidOf f a tp m = record { find = f; number = findNumber f; bytes = dataOf f tp m; repaired = a .repaired; place = a .at }
 
-abbrev pub says : Find → Option ℕ → Said
-says f n = record { find = f; number = n; bytes = []; repaired = 0 }
+abbrev pub says : Find → Option ℕ → Place → Said
+says f n p = record { find = f; number = n; bytes = []; repaired = 0; place = p }
 
 abbrev pub hands : Find → Tag → List ℕ → Said
-hands f t d = record { find = f; number = none; bytes = d; repaired = t .repaired }
+hands f t d = record { find = f; number = none; bytes = d; repaired = t .repaired; place = t .at }
 
 -- "the same TP and room are lent until one says none, which ends the TP"; after 1 and 6 to 9 no none follows
 abbrev pub lasts : Find → Bool
@@ -76,6 +86,7 @@ pub record Gave : Type 0 where
   pub size : ℕ
   pub stream : ℕ
   pub limit : ℕ
+  pub count : ℕ
   pub stage : Stage
   pub at : ℕ
   pub frame : Frame wire
@@ -90,6 +101,7 @@ leave r stage at f es s k a m = record {
   size = r .size;
   stream = r .stream;
   limit = r .limit;
+  count = r .count;
   stage = stage;
   at = at;
   frame = f;
@@ -102,15 +114,16 @@ leave r stage at f es s k a m = record {
 -- the same receiver in this stage at this place
 abbrev pub moved : Receiver → Stage → ℕ → Said → List ℕ → Gave
 moved r stage at a m =
-    leave r stage at (frameOf (r .walk .phase)) (todoOf (r .walk .phase)) (heldOf (r .walk .kept) m) (keeps (r .walk .kept)) a m
+    leave r stage at (frameOf (r .walk .began) (r .walk .phase)) (todoOf (r .walk .began) (r .walk .phase)) (heldOf (r .walk .kept) m)
+    (keeps (r .walk .kept)) a m
 
 -- 1, 6, 8: "all unchanged"
-abbrev pub unchanged : Receiver → Find → ℕ → List ℕ → Gave
-unchanged r f n m = moved r (r .stage) (r .walk .at) (says f (some n)) m
+abbrev pub unchanged : Receiver → Stamp → Find → ℕ → List ℕ → Gave
+unchanged r t f n m = moved r (r .stage) (r .walk .at) (says f (some n) (startOf t)) m
 
 -- 7, 9: "out of step, TP dropped"
-abbrev pub gone : Receiver → ℕ → List ℕ → Gave
-gone r n m = leave r Fresh 0 lost [] free 0 (says (F.Notice n) (some n)) m
+abbrev pub gone : Receiver → Stamp → ℕ → List ℕ → Gave
+gone r t n m = leave r Fresh 0 lost [] free 0 (says (F.Notice n) (some n) (startOf t)) m
 
 abbrev pub holds : Held wire → ℕ
 holds free = 0
@@ -120,69 +133,99 @@ abbrev pub pulled : Receiver → Pulled wire → Stage → ℕ → Said → Gave
 pulled r p stage at a = leave r stage at (p .frame) (p .todo) (p .held) (holds (p .held)) a (p .room)
 
 -- AMONG ORDINARY BYTES, read on up to a find; none ends the TP (reassembly gives no low-latency packet)
-abbrev pub ordinaryBy : Option (Finding wire) → Receiver → Pulled wire → Gave
-ordinaryBy none r p = pulled r p Fresh 0 (says F.Nothing none)
-ordinaryBy (some (notice n)) r p = pulled r p Plain (p .at) (says (F.Notice n) (some n))
-ordinaryBy (some (low t d)) r p = pulled r p Plain (p .at) (hands (F.Low (t .content) 0 (length d)) t d)
-ordinaryBy (some (ordinary t d)) r p = pulled r p Plain (p .at) (hands (F.Ordinary (t .content) (length d)) t d)
+abbrev pub ordinaryBy : Option (Finding wire) → Receiver → Stamp → Pulled wire → Gave
+ordinaryBy none r n p = pulled r p Fresh 0 (says F.Nothing none (startOf n))
+ordinaryBy (some (notice k g)) r n p = pulled r p Plain (p .at) (says (F.Notice k) (some k) g)
+ordinaryBy (some (low t d)) r n p = pulled r p Plain (p .at) (hands (F.Low (t .content) 0 (length d)) t d)
+ordinaryBy (some (ordinary t d)) r n p = pulled r p Plain (p .at) (hands (F.Ordinary (t .content) (length d)) t d)
 
-abbrev pub ordinaryCall : Receiver → Pulled wire → Gave
-ordinaryCall r p = ordinaryBy (p .find) r p
+abbrev pub ordinaryCall : Receiver → Stamp → Pulled wire → Gave
+ordinaryCall r n p = ordinaryBy (p .find) r n p
 
 -- the same walk at another place
 abbrev pub walkTo : Receiver → ℕ → Walk
-walkTo r at = record { at = at; phase = r .walk .phase; kept = r .walk .kept }
+walkTo r at = record { at = at; phase = r .walk .phase; began = r .walk .began; kept = r .walk .kept }
 
 -- setting about them from this place on
-abbrev pub startCall : Receiver → ℕ → Start wire → List ℕ → List ℕ → Gave
-startCall r at t tp m = ordinaryCall r (from (length m) t (walkTo r at) tp m)
+abbrev pub startCall : Receiver → Stamp → ℕ → Start wire → List ℕ → List ℕ → Gave
+startCall r n at t tp m = ordinaryCall r n (from (length m) n t (walkTo r at) tp m)
 
 -- BEHIND THE LOW-LATENCY PART, which ends at this place, with this offset; the payload begins at place 4
-unfoldable pub dueCall : Receiver → ℕ → ℕ → List ℕ → List ℕ → Gave
+unfoldable pub dueCall : Receiver → Stamp → ℕ → ℕ → List ℕ → List ℕ → Gave
 unfolding outset
-dueCall r offset at tp m = startCall r at (outset wire (frameOf (r .walk .phase)) offset (at - 4) (drop at tp)) tp m
+dueCall r n offset at tp m =
+    startCall r n at (outset wire (startOf n) (frameOf (r .walk .began) (r .walk .phase)) offset (at - 4) (placed n at (drop at tp))) tp m
 
 -- IN THE LOW-LATENCY PART. 11: "that LLEP not handed out; out of step, rest of TP dropped"
-abbrev pub lowCall : Lows → Receiver → ℕ → List ℕ → List ℕ → Gave
-lowCall (L.Broken at) r offset tp m = startCall r at (dropped wire 11 (drop at tp)) tp m
-lowCall (L.End at) r offset tp m = dueCall r offset at tp m
-lowCall (L.Gives f e more at) r offset tp m = moved r (cond more (Low offset) (Due offset)) at (saidOf f e tp m) m
+abbrev pub lowCall : Lows → Receiver → Stamp → ℕ → List ℕ → List ℕ → Gave
+lowCall (L.Broken at) r n offset tp m = startCall r n at (dropped wire 11 (placeAt n at) (placed n at (drop at tp))) tp m
+lowCall (L.End at) r n offset tp m = dueCall r n offset at tp m
+lowCall (L.Gives f e i more at) r n offset tp m =
+    moved r (cond more (Low offset) (Due offset)) at (saidOf f (record { repaired = e; at = placeAt n i }) tp m) m
 
 -- AT THE PAYLOAD'S START, with a low-latency part or without
-abbrev pub payloadCall : Bool → Receiver → ℕ → List ℕ → List ℕ → Gave
-payloadCall true r offset tp m = lowCall (lowsOf tp 4) r offset tp m
-payloadCall false r offset tp m = dueCall r offset 4 tp m
+abbrev pub payloadCall : Bool → Receiver → Stamp → ℕ → List ℕ → List ℕ → Gave
+payloadCall true r n offset tp m = lowCall (lowsOf tp 4) r n offset tp m
+payloadCall false r n offset tp m = dueCall r n offset 4 tp m
 
 -- by the TP's Golay word: "bit 11: low-latency part present; bits 10 to 0: offset"
-abbrev pub wordCall : Option ℕ → Receiver → List ℕ → List ℕ → Gave
-wordCall none r tp m = gone r 9 m
-wordCall (some w) r tp m = payloadCall (leb 2048 w) r (w % 2048) tp m
+abbrev pub wordCall : Option ℕ → Receiver → Stamp → List ℕ → List ℕ → Gave
+wordCall none r n tp m = gone r n 9 m
+wordCall (some w) r n tp m = payloadCall (leb 2048 w) r n (w % 2048) tp m
 
--- A TP'S FIRST CALL: "the checks of .. 8, 7, 9 in this order"
-unfoldable pub firstCall : Receiver → List ℕ → List ℕ → Gave
+-- a TP is counted at its first call
+abbrev pub countIn : Stage → ℕ → ℕ
+countIn Fresh n = countOf n
+countIn (Low offset) n = n
+countIn (Due offset) n = n
+countIn Plain n = n
+
+abbrev pub countedOf : Receiver → Receiver
+countedOf r = record {
+  size = r .size;
+  stream = r .stream;
+  limit = r .limit;
+  count = countIn (r .stage) (r .count);
+  stage = r .stage;
+  walk = r .walk;
+}
+
+-- A TP'S FIRST CALL: "the checks of .. 8, 7, 9 in this order"; c is r with this TP counted
+unfoldable pub firstCall : Receiver → Receiver → Stamps → List ℕ → List ℕ → Gave
 unfolding dueCall lowsOf
-firstCall r tp m =
+firstCall r c n tp m =
     cond (eqb (streamOf (getD tp 0 0)) (r .stream))
-    (cond (eqb (versionOf (getD tp 0 0)) 0) (wordCall (tpNumberIn (number 0 (take 3 (drop 1 tp)))) r tp m) (gone r 7 m))
-    (unchanged r (F.Notice 8) 8 m)
+    (cond (eqb (versionOf (getD tp 0 0)) 0) (wordCall (tpNumberIn (number 0 (take 3 (drop 1 tp)))) c (n .now) tp m) (gone c (n .now) 7 m))
+    (unchanged r (n .before) (F.Notice 8) 8 m)
 
-abbrev pub stageCall : Stage → Receiver → List ℕ → List ℕ → Gave
-stageCall Fresh r tp m = firstCall r tp m
-stageCall (Low offset) r tp m = lowCall (lowsOf tp (r .walk .at)) r offset tp m
-stageCall (Due offset) r tp m = dueCall r offset (r .walk .at) tp m
-stageCall Plain r tp m = ordinaryCall r (pullOf (length m) (r .walk) tp m)
+abbrev pub stageCall : Stage → Receiver → Receiver → Stamps → List ℕ → List ℕ → Gave
+stageCall Fresh r c n tp m = firstCall r c n tp m
+stageCall (Low offset) r c n tp m = lowCall (lowsOf tp (r .walk .at)) c (n .now) offset tp m
+stageCall (Due offset) r c n tp m = dueCall c (n .now) offset (r .walk .at) tp m
+stageCall Plain r c n tp m = ordinaryCall c (n .now) (pullOf (length m) (n .now) (r .walk) tp m)
 
--- THE CALL. "Later calls of a TP check only 1 and 6."
-unfoldable pub callOf : Receiver → List ℕ → List ℕ → Gave
+-- THE CALL, by these stamps. "Later calls of a TP check only 1 and 6."
+unfoldable pub callAs : Receiver → Stamps → List ℕ → List ℕ → Gave
 unfolding firstCall
-callOf r tp m =
+callAs r n tp m =
     cond (eqb (length m) (r .limit))
-    (cond (eqb (length tp) (r .size)) (stageCall (r .stage) r tp m) (unchanged r (F.Notice 6) 6 m))
-    (unchanged r F.Refused 1 m)
+    (cond (eqb (length tp) (r .size)) (stageCall (r .stage) r (countedOf r) n tp m) (unchanged r (n .before) (F.Notice 6) 6 m))
+    (unchanged r (n .before) F.Refused 1 m)
+
+-- by the receiver's own count, and by a caller's stamp for the TP
+abbrev pub stampsOf : Receiver → Stamps
+stampsOf r = record { before = ownOf (r .count); now = ownOf (countIn (r .stage) (r .count)) }
+
+abbrev pub always : Stamp → Stamps
+always n = record { before = n; now = n }
+
+unfoldable pub callOf : Receiver → List ℕ → List ℕ → Gave
+unfolding callAs
+callOf r tp m = callAs r (stampsOf r) tp m
 
 -- what a step shows of itself, with the room's bytes behind it
 unfoldable pub stepped : Step → List ℕ → List ℕ → Gave
-stepped q tp m = moved (q .receiver) (q .receiver .stage) (q .receiver .walk .at) (saidOf (q .find) (q .about .repaired) tp m) m
+stepped q tp m = moved (q .receiver) (q .receiver .stage) (q .receiver .walk .at) (saidOf (q .find) (q .about) tp m) m
 
 -- THE PROMISE of a call: answer, receiver and room are these, and the receiver can be called again
 pub record Gives (g : Gave) (q : Step) (tp m : List ℕ) : Type 0 where
@@ -190,13 +233,34 @@ pub record Gives (g : Gave) (q : Step) (tp m : List ℕ) : Type 0 where
   pub able : Able (q .receiver)
 
 -- "It starts out of step."
-abbrev pub freshOf : ℕ → ℕ → ℕ → Receiver
-freshOf size stream limit =
-    record { size = size; stream = stream; limit = limit; stage = Fresh; walk = record { at = 0; phase = Lost; kept = Empty } }
+abbrev pub freshOf : ℕ → ℕ → ℕ → ℕ → Receiver
+freshOf size stream limit count = record {
+  size = size;
+  stream = stream;
+  limit = limit;
+  count = count;
+  stage = Fresh;
+  walk = record { at = 0; phase = Lost; began = startOf (ownOf 0); kept = Empty };
+}
 
--- "Being told of a gap puts it out of step ..: the unfinished EP and the held fragments are dropped"; it ends the TP
+-- "Being told of a gap puts it out of step ..: the unfinished EP and the held fragments are dropped"; it ends the TP, and "doesn't
+-- reset" the count
 abbrev pub gapOf : Receiver → Receiver
-gapOf r = freshOf (r .size) (r .stream) (r .limit)
+gapOf r = freshOf (r .size) (r .stream) (r .limit) (r .count)
+
+-- where what is unfinished began: the packet that is kept, else the header or EP under way
+abbrev pub underWay : Phase → Place → Unfinished
+underWay Lost g = P.Nothing
+underWay (Head n w) g = cond (eqb n 0) P.Nothing (P.From g)
+underWay (Judged h) g = P.From g
+underWay (Body h n) g = P.From g
+
+abbrev pub pendingBy : Kept → Phase → Place → Unfinished
+pendingBy Empty p g = underWay p g
+pendingBy (Of c e b n) p g = P.From b
+
+abbrev pub pendingOf : Walk → Unfinished
+pendingOf w = pendingBy (w .kept) (w .phase) (w .began)
 
 -- document 01's number for an opening's answer
 abbrev pub openNumber : Opened → Option ℕ
@@ -221,7 +285,7 @@ openingOf size stream limit =
     cond (ltb size 16) outside
     (cond (ltb 2051 size) outside
     (cond (ltb 15 stream) outside
-    (cond (ltb 131072 limit) outside (record { opened = O.Ready (freshOf size stream limit); number = none }))))
+    (cond (ltb 131072 limit) outside (record { opened = O.Ready (freshOf size stream limit 0); number = none }))))
 
 -- what is opened can be called
 abbrev pub AbleIf : Opened → Type 0

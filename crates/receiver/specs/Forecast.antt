@@ -4,10 +4,10 @@
 use Prim.Native.Nat.{ℕ, zero, suc, _+_, _-_}
 use mathlib.Core.Bool.{Bool, true, false, cond}
 use mathlib.Core.Option.{Option, none, some}
-use mathlib.Core.List.{List, [], _∷_}
+use mathlib.Core.List.{List, [], _∷_, _++_}
 use lib.Dec.{eqb, leb, ltb}
 use lib.ListN.{length, drop}
-use Rattle.receiver.specs.Frame.{Code, Frame, lost, idle, head, body, Event, lose, step}
+use Rattle.receiver.specs.Frame.{Code, Frame, lost, idle, head, body, Event, lose, gap, Out, step, after, events}
 
 pub data Phase : Type 0 where
   off between inside : Phase
@@ -16,7 +16,7 @@ module _ (C : Code) where
   abbrev pub phase : Frame C → Phase
   phase lost = off
   phase idle = between
-  phase (head k hs) = inside
+  phase (head p k hs) = inside
   phase (body h k) = inside
 
   abbrev pub look : Phase → Option ℕ → Option ℕ
@@ -51,32 +51,63 @@ module _ (C : Code) where
   abbrev pub resume : List (Event C) → ℕ → List (C .B) → Start
   resume es n bs = record { told = es; frame = upon (drop n bs); past = n }
 
-  -- 13: "offset differs from the foretold one: out of step, then reading resumes at this offset"
-  abbrev pub agree : Bool → Frame C → ℕ → List (C .B) → Start
-  agree true f n bs = record { told = []; frame = f; past = 0 }
-  agree false f n bs = resume (lose 13 ∷ []) n bs
+  -- where the header under way began
+  abbrev pub since : C .S → Frame C → C .S
+  since p lost = p
+  since p idle = p
+  since p (head s k hs) = s
+  since p (body h k) = p
+
+  -- 13: "offset differs from the foretold one: out of step, then reading resumes at this offset"; p is the TP's place 0
+  abbrev pub agree : Bool → C .S → Frame C → ℕ → List (C .B) → Start
+  agree true p f n bs = record { told = []; frame = f; past = 0 }
+  agree false p f n bs = resume (lose 13 p ∷ []) n bs
 
   -- 12: "if the header began in an earlier TP, reading resumes as in 13", which isn't also given
-  abbrev pub judge : Option ℕ → Frame C → ℕ → List (C .B) → Start
-  judge none f n bs = resume (lose 12 ∷ []) n bs
-  judge (some m) f n bs = agree (eqb m n) f n bs
+  abbrev pub judge : Option ℕ → C .S → Frame C → ℕ → List (C .B) → Start
+  judge none p f n bs = resume (lose 12 (since p f) ∷ []) n bs
+  judge (some m) p f n bs = agree (eqb m n) p f n bs
 
-  abbrev pub set-out : Phase → Frame C → ℕ → List (C .B) → Start
-  set-out off f n bs = resume [] n bs
-  set-out between f n bs = judge (foretold f bs) f n bs
-  set-out inside f n bs = judge (foretold f bs) f n bs
+  abbrev pub set-out : Phase → C .S → Frame C → ℕ → List (C .B) → Start
+  set-out off p f n bs = resume [] n bs
+  set-out between p f n bs = judge (foretold f bs) p f n bs
+  set-out inside p f n bs = judge (foretold f bs) p f n bs
 
-  abbrev pub start : Frame C → ℕ → List (C .B) → Start
-  start f n bs = set-out (phase f) f n bs
+  abbrev pub start : C .S → Frame C → ℕ → List (C .B) → Start
+  start p f n bs = set-out (phase f) p f n bs
 
-  -- out of step by this notice, the rest of the TP dropped
-  abbrev pub dropped : ℕ → List (C .B) → Start
-  dropped n bs = record { told = lose n ∷ []; frame = lost; past = length bs }
+  -- out of step by this notice of this place, the rest of the TP dropped
+  abbrev pub dropped : ℕ → C .S → List (C .B) → Start
+  dropped n p bs = record { told = lose n p ∷ []; frame = lost; past = length bs }
 
   -- the bytes behind a low-latency part of so many bytes, at an offset that counts it
   -- 10: "an offset that is not 2047 and is at least P"; 21: one "before the low-latency part's end"
-  unfoldable pub outset : Frame C → ℕ → ℕ → List (C .B) → Start
-  outset f offset gone bs =
-      cond (eqb offset 2047) (start f (length bs) bs)
-      (cond (leb (gone + length bs) offset) (dropped 10 bs)
-      (cond (ltb offset gone) (dropped 21 bs) (start f (offset - gone) bs)))
+  unfoldable pub outset : C .S → Frame C → ℕ → ℕ → List (C .B) → Start
+  outset p f offset gone bs =
+      cond (eqb offset 2047) (start p f (length bs) bs)
+      (cond (leb (gone + length bs) offset) (dropped 10 p bs)
+      (cond (ltb offset gone) (dropped 21 p bs) (start p f (offset - gone) bs)))
+
+  -- WAYS: what an input does, whatever the frame: nothing (6, 8); out of step by this notice (7, 9, 10, 11, 21) or by a told
+  -- gap; ordinary bytes, of which n stand before the first EP that begins here, in a TP with this place 0
+  pub data Way : Type 0 where
+    stays : Way
+    drops : ℕ → C .S → Way
+    gaps : Way
+    goes : C .S → ℕ → List (C .B) → Way
+
+  abbrev pub read : Start → List (C .B) → Out C
+  read t bs = (after C (t .frame) (drop (t .past) bs), t .told ++ events C (t .frame) (drop (t .past) bs))
+
+  abbrev pub by-way : Frame C → Way → Out C
+  by-way f stays = (f, [])
+  by-way f (drops n p) = (lost, lose n p ∷ [])
+  by-way f gaps = (lost, gap ∷ [])
+  by-way f (goes p n bs) = read (start p f n bs) bs
+
+  -- the way of ordinary bytes behind a low-latency part of so many bytes, at an offset that counts it
+  unfoldable pub wayAt : C .S → ℕ → ℕ → List (C .B) → Way
+  wayAt p offset gone bs =
+      cond (eqb offset 2047) (goes p (length bs) bs)
+      (cond (leb (gone + length bs) offset) (drops 10 p)
+      (cond (ltb offset gone) (drops 21 p) (goes p (offset - gone) bs)))

@@ -9,6 +9,8 @@ use lib.ListN.{length, take, drop}
 use Rattle.digits.specs.Digits.{number}
 use Rattle.wire.specs.declared.Header.{Header}
 use Rattle.wire.specs.Reading.{headerIn}
+use Rattle.receiver.specs.declared.Place.{Place}
+use Rattle.receiver.specs.declared.Stamp.{Stamp}
 use Rattle.receiver.specs.declared.outset.Fore.{Fore}
 use Rattle.receiver.specs.declared.outset.Fore.the-variants.{Bad, At}
 use Rattle.receiver.specs.declared.outset.Start.{Start}
@@ -21,7 +23,8 @@ use Rattle.receiver.specs.Forecast as F
 use Rattle.receiver.specs.Low.{wire}
 use Rattle.receiver.specs.Pull.{Pulled}
 use Rattle.receiver.specs.State.{frameOf, from, pullOf, Sound}
-use Rattle.receiver.specs.Outset.{uponOf}
+use Rattle.receiver.specs.Outset.{uponOf, lostAt}
+use Rattle.receiver.specs.Place.{startOf, placed}
 use Rattle.receiver.specs.InWalk.{shown}
 
 -- the forecast of a header that is read on for it only
@@ -36,18 +39,18 @@ aheadOf tp at n w =
     (behindOf (headerIn (number w (take (6 - n) (drop at tp)))) (6 - n) (length tp - at)))
 
 -- the call that sets about the bytes
-unfoldable pub setOut : ℕ → Walk → ℕ → List ℕ → List ℕ → Pulled wire
-setOut cap w n tp m = from cap (F.start wire (frameOf (w .phase)) n (drop (w .at) tp)) w tp m
+unfoldable pub setOut : ℕ → Stamp → Walk → ℕ → List ℕ → List ℕ → Pulled wire
+setOut cap t w n tp m = from cap t (F.start wire (startOf t) (frameOf (w .began) (w .phase)) n (placed t (w .at) (drop (w .at) tp))) w tp m
 
--- out of step by this notice, and on from this place
-abbrev pub loseOf : ℕ → ℕ → ℕ → Answer
-loseOf at len n = record { walk = record { at = at; phase = uponOf at len; kept = Empty }; gain = Notice n }
+-- out of step by this notice of this place, and on from there
+abbrev pub loseOf : ℕ → ℕ → ℕ → Place → Answer
+loseOf at len n g = record { walk = record { at = at; phase = uponOf at len; began = g; kept = Empty }; gain = Notice n }
 
 -- reading on with x answers the call that sets about the bytes, whatever room is lent
 pub record ReadsOn (w : Walk) (n : ℕ) (tp : List ℕ) (x : Walk) : Type 0 where
-  pub same : (m : List ℕ) → pullOf (length m) x tp m ≡ setOut (length m) w n tp m
+  pub same : (t : Stamp) (m : List ℕ) → pullOf (length m) t x tp m ≡ setOut (length m) t w n tp m
   pub sound : (cap : ℕ) → Sound cap (length tp) w → Sound cap (length tp) x
 
 unfoldable pub SetsOut : Walk → ℕ → List ℕ → Start → Type 0
 SetsOut w n tp (Reads x) = ReadsOn w n tp x
-SetsOut w n tp (Loses i) = (m : List ℕ) → shown (loseOf (w .at + n) (length tp) i) m ≡ setOut (length m) w n tp m
+SetsOut w n tp (Loses i) = (t : Stamp) (m : List ℕ) → shown (loseOf (w .at + n) (length tp) i (lostAt i t (w .began))) m ≡ setOut (length m) t w n tp m

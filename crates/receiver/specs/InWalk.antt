@@ -6,6 +6,8 @@ use mathlib.Core.Option.{Option, none, some}
 use mathlib.Core.List.{List}
 use lib.ListN.{length, take, drop}
 use lib.Seq.{paste}
+use Rattle.receiver.specs.declared.Place.{Place}
+use Rattle.receiver.specs.declared.Stamp.{Stamp}
 use Rattle.receiver.specs.declared.walk.Answer.{Answer}
 use Rattle.receiver.specs.declared.walk.Gain.{Gain}
 use Rattle.receiver.specs.declared.walk.Gain.the-variants.{Nothing, Notice, Packet}
@@ -24,7 +26,7 @@ use Rattle.receiver.specs.Turns.{toil}
 
 abbrev pub pasted : Kept → List ℕ → List ℕ → ℕ → List ℕ
 pasted Empty m ds n = m
-pasted (Of c e k) m ds n = paste m k ds n
+pasted (Of c e g k) m ds n = paste m k ds n
 
 abbrev pub roomBy : Phase → ℕ → Kept → List ℕ → List ℕ → List ℕ
 roomBy Lost at k tp m = m
@@ -36,18 +38,19 @@ roomBy (Body h left) at k tp m = pasted k m (drop at tp) (min left (length tp - 
 unfoldable pub roomOf : Walk → List ℕ → List ℕ → List ℕ
 roomOf w tp m = roomBy (w .phase) (w .at) (w .kept) tp m
 
-abbrev pub findOf : Gain → List ℕ → Option (Finding wire)
-findOf Nothing m = none
-findOf (Notice n) m = some (notice n)
-findOf (Packet c e n) m = some (ordinary (tagOf c e) (take n m))
+-- a notice is of the EP under way, which began there
+abbrev pub findOf : Gain → Place → List ℕ → Option (Finding wire)
+findOf Nothing b m = none
+findOf (Notice n) b m = some (notice n b)
+findOf (Packet c e g n) b m = some (ordinary (tagOf c e g) (take n m))
 
 -- the call that was answered
 unfoldable pub shown : Answer → List ℕ → Pulled wire
 shown a m = record {
-  find = findOf (a .gain) m;
+  find = findOf (a .gain) (a .walk .began) m;
   at = a .walk .at;
-  frame = frameOf (a .walk .phase);
-  todo = todoOf (a .walk .phase);
+  frame = frameOf (a .walk .began) (a .walk .phase);
+  todo = todoOf (a .walk .began) (a .walk .phase);
   held = heldOf (a .walk .kept) m;
   room = m;
 }
@@ -56,19 +59,19 @@ shown a m = record {
 abbrev pub Gained : ℕ → Gain → Type 0
 Gained cap Nothing = 0 ≤ 0
 Gained cap (Notice n) = 0 ≤ 0
-Gained cap (Packet c e n) = n + 0 ≤ cap
+Gained cap (Packet c e g n) = n + 0 ≤ cap
 
 -- one turn of a call: from w with the room's bytes m to x with those of m′
-pub record On (cap : ℕ) (w : Walk) (tp m : List ℕ) (x : Walk) (m′ : List ℕ) : Type 0 where
-  pub same : pullOf cap x tp m′ ≡ pullOf cap w tp m
+pub record On (cap : ℕ) (t : Stamp) (w : Walk) (tp m : List ℕ) (x : Walk) (m′ : List ℕ) : Type 0 where
+  pub same : pullOf cap t x tp m′ ≡ pullOf cap t w tp m
   pub sound : Sound cap (length tp) x
   pub less : toil (length tp) x < toil (length tp) w
 
-pub record Ends (cap : ℕ) (w : Walk) (tp m : List ℕ) (a : Answer) (m′ : List ℕ) : Type 0 where
-  pub same : shown a m′ ≡ pullOf cap w tp m
+pub record Ends (cap : ℕ) (t : Stamp) (w : Walk) (tp m : List ℕ) (a : Answer) (m′ : List ℕ) : Type 0 where
+  pub same : shown a m′ ≡ pullOf cap t w tp m
   pub sound : Sound cap (length tp) (a .walk)
   pub gained : Gained cap (a .gain)
 
-unfoldable pub Carries : ℕ → Walk → List ℕ → List ℕ → Turn → List ℕ → Type 0
-Carries cap w tp m (More x) m′ = On cap w tp m x m′
-Carries cap w tp m (Stop a) m′ = Ends cap w tp m a m′
+unfoldable pub Carries : ℕ → Stamp → Walk → List ℕ → List ℕ → Turn → List ℕ → Type 0
+Carries cap t w tp m (More x) m′ = On cap t w tp m x m′
+Carries cap t w tp m (Stop a) m′ = Ends cap t w tp m a m′

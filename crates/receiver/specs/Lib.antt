@@ -1,5 +1,6 @@
 -- To be read beside document 01, in its order:
 pub mod Kind
+pub mod Place
 pub mod Frame
 pub mod Forecast
 pub mod Join

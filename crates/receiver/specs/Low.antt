@@ -16,38 +16,60 @@ use Rattle.receiver.specs.declared.kind.Kind.{Kind}
 use Rattle.receiver.specs.declared.kind.Kind.the-variants as K
 use Rattle.receiver.specs.declared.low.Llep.{Llep}
 use Rattle.receiver.specs.declared.low.Llep.the-variants.{Broken, Whole}
+use Rattle.receiver.specs.declared.Stamp.{Stamp}
+use Rattle.receiver.specs.declared.Place.{Place}
 use Rattle.receiver.specs.Kind.{kindOf}
+use Rattle.receiver.specs.Place.{placeAt}
 use Rattle.receiver.specs.Frame.{Code}
 use Rattle.receiver.specs.Join.{Finding, notice, low}
 
--- a packet is known by its content and by "the total repaired in its EP headers (and end byte, if low-latency)"
+-- a header, and the place of its first byte
+pub record Ep : Type 0 where
+  pub at : Place
+  pub header : Header
+
+abbrev pub epAt : Place → Header → Ep
+epAt p h = record { at = p; header = h }
+
+-- a packet is known by its content, by "the total repaired in its EP headers (and end byte, if low-latency)", and by the "payload
+-- place of its first EP byte"
 pub record Tag : Type 0 where
   pub content : ℕ
   pub repaired : ℕ
+  pub at : Place
 
-abbrev pub tagOf : ℕ → ℕ → Tag
-tagOf c n = record { content = c; repaired = n }
+abbrev pub tagOf : ℕ → ℕ → Place → Tag
+tagOf c n p = record { content = c; repaired = n; at = p }
 
 -- "A total stops at 4,294,967,295."
 abbrev pub totalOf : ℕ → ℕ → ℕ
 totalOf n flips = min (n + flips) 4294967295
 
-abbrev pub beginOf : Header → Tag
-beginOf h = tagOf (h .content) (h .flips)
+abbrev pub beginOf : Ep → Tag
+beginOf h = tagOf (h .header .content) (h .header .flips) (h .at)
 
-abbrev pub joinOf : Tag → Header → Tag
-joinOf t h = tagOf (t .content) (totalOf (t .repaired) (h .flips))
+abbrev pub joinOf : Tag → Ep → Tag
+joinOf t h = tagOf (t .content) (totalOf (t .repaired) (h .header .flips)) (t .at)
 
--- the header code of the wire, over plain bytes
+abbrev pub epIf : Place → Option Header → Option Ep
+epIf p none = none
+epIf p (some h) = some (epAt p h)
+
+-- the header code of the wire, over bytes with their places, of which plain ones are kept
 abbrev pub wire : Code
 wire = record {
-  B = ℕ;
-  H = Header;
+  B = Place × ℕ;
+  K = ℕ;
+  S = Place;
+  H = Ep;
   T = Tag;
-  decode = headerOf;
-  size = λ (h : Header). h .size;
-  kind = kindOf;
-  content = λ (h : Header). h .content;
+  keep = λ b. b .1;
+  mark = λ b. b .0;
+  decode = λ p bs. epIf p (headerOf bs);
+  size = λ (h : Ep). h .header .size;
+  kind = λ (h : Ep). kindOf (h .header);
+  content = λ (h : Ep). h .header .content;
+  place = λ (h : Ep). h .at;
   begin = beginOf;
   join = joinOf;
   sort = λ (t : Tag). t .content;
@@ -82,33 +104,36 @@ unfolding sized
 llep bs = cond (ltb (length bs) 7) Broken (begins (headerOf (take 6 bs)) bs)
 
 -- 16: "an LLEP with a fragment flag not 0 (fill excepted)", or with content 7 to 15; fill is passed over
-abbrev pub given : Kind → Header → List ℕ → List (Finding wire)
-given K.Fill h bs = []
-given K.Complete h bs = low (beginOf h) (take (h .size) (drop 6 bs)) ∷ []
-given K.Reserved h bs = notice 16 ∷ []
-given K.First h bs = notice 16 ∷ []
-given K.Middle h bs = notice 16 ∷ []
-given K.Last h bs = notice 16 ∷ []
+abbrev pub given : Kind → Place → Header → List ℕ → List (Finding wire)
+given K.Fill p h bs = []
+given K.Complete p h bs = low (beginOf (epAt p h)) (take (h .size) (drop 6 bs)) ∷ []
+given K.Reserved p h bs = notice 16 p ∷ []
+given K.First p h bs = notice 16 p ∷ []
+given K.Middle p h bs = notice 16 p ∷ []
+given K.Last p h bs = notice 16 p ∷ []
 
--- the finds of a low-latency part, and the bytes behind it; none if it breaks
+-- the finds of a low-latency part, and the bytes behind it, none if it breaks; and which of the TP's bytes is the first
+-- behind it, or of the LLEP that breaks
 pub record Part : Type 0 where
   pub finds : List (Finding wire)
   pub behind : Option (List ℕ)
+  pub from : ℕ
 
 abbrev pub ahead : List (Finding wire) → Part → Part
-ahead fs p = record { finds = fs ++ p .finds; behind = p .behind }
+ahead fs p = record { finds = fs ++ p .finds; behind = p .behind; from = p .from }
 
-abbrev pub walked : Llep → List ℕ → (List ℕ → Part) → Part
-walked Broken bs on = record { finds = []; behind = none }
-walked (Whole h more) bs on =
-    ahead (given (kindOf h) h bs) (cond more (on (drop (7 + h .size) bs)) (record { finds = []; behind = some (drop (7 + h .size) bs) }))
+abbrev pub walked : Llep → Stamp → ℕ → List ℕ → (ℕ → List ℕ → Part) → Part
+walked Broken t i bs on = record { finds = []; behind = none; from = i }
+walked (Whole h more) t i bs on =
+    ahead (given (kindOf h) (placeAt t i) h bs)
+    (cond more (on (i + 7 + h .size) (drop (7 + h .size) bs)) (record { finds = []; behind = some (drop (7 + h .size) bs); from = i + 7 + h .size }))
 
 -- "The walk over the low-latency part stops at the first 00 end byte or the first broken LLEP."
-unfoldable pub walk : ℕ → List ℕ → Part
-walk zero bs = record { finds = []; behind = none }
-walk (suc k) bs = walked (llep bs) bs (λ rest. walk k rest)
+unfoldable pub walk : ℕ → Stamp → ℕ → List ℕ → Part
+walk zero t i bs = record { finds = []; behind = none; from = i }
+walk (suc k) t i bs = walked (llep bs) t i bs (λ j rest. walk k t j rest)
 
 -- no LLEP is shorter than its end byte, so a walk takes no more turns than there are bytes
-unfoldable pub lowPart : List ℕ → Part
+unfoldable pub lowPart : Stamp → ℕ → List ℕ → Part
 unfolding walk
-lowPart bs = walk (suc (length bs)) bs
+lowPart t i bs = walk (suc (length bs)) t i bs

@@ -19,8 +19,8 @@ use Rattle.receiver.specs.declared.low.Lows.the-variants.{Broken, End, G
 use Rattle.receiver.specs.Kind.{kindOf}
 use Rattle.receiver.specs.Low.{llep}
 
-abbrev pub gives : Find → ℕ → Bool → ℕ → One
-gives f repaired more end = Stop (Gives f repaired more end)
+abbrev pub gives : Find → ℕ → ℕ → Bool → ℕ → One
+gives f repaired from more end = Stop (Gives f repaired from more end)
 
 abbrev pub goneBy : Bool → ℕ → One
 goneBy more end = cond more (More end) (Stop (End end))
@@ -43,12 +43,12 @@ repairedOf K.First h = 0
 repairedOf K.Middle h = 0
 repairedOf K.Last h = 0
 
-abbrev pub passedBy : Told → ℕ → Bool → ℕ → One
-passedBy T.More repaired more end = goneBy more end
-passedBy (T.Gives f) repaired more end = gives f repaired more end
+abbrev pub passedBy : Told → ℕ → ℕ → Bool → ℕ → One
+passedBy T.More repaired from more end = goneBy more end
+passedBy (T.Gives f) repaired from more end = gives f repaired from more end
 
 abbrev pub passedOf : Kind → Header → Bool → ℕ → One
-passedOf k h more at = passedBy (toldOf k h at) (repairedOf k h) more (at + 7 + h .size)
+passedOf k h more at = passedBy (toldOf k h at) (repairedOf k h) at more (at + 7 + h .size)
 
 abbrev pub oneOf : Llep → ℕ → One
 oneOf L.Broken at = Stop (Broken at)

@@ -9,9 +9,12 @@ use lib.Dec.{eqb, leb}
 use lib.ListN.{length, take, drop, getD}
 use Rattle.digits.specs.Digits.{number}
 use Rattle.wire.specs.Reading.{tpNumberIn, streamOf, versionOf}
+use Rattle.receiver.specs.declared.About.{About}
 use Rattle.receiver.specs.declared.Find.{Find}
 use Rattle.receiver.specs.declared.Find.the-variants as F
+use Rattle.receiver.specs.declared.Place.{Place}
 use Rattle.receiver.specs.declared.Receiver.{Receiver}
+use Rattle.receiver.specs.declared.Stamp.{Stamp}
 use Rattle.receiver.specs.declared.Role.{Role}
 use Rattle.receiver.specs.declared.Role.the-variants as R
 use Rattle.receiver.specs.declared.Piece.{Piece}
@@ -25,8 +28,8 @@ use Rattle.receiver.specs.declared.entry.Top.{Top}
 use Rattle.receiver.specs.declared.entry.Top.the-variants.{Elsewhere, Dropped, Says}
 use Rattle.receiver.specs.declared.low.Llep.{Llep}
 use Rattle.receiver.specs.declared.low.Llep.the-variants as L
-use Rattle.receiver.specs.declared.outset.Place.{Place}
-use Rattle.receiver.specs.declared.outset.Place.the-variants.{Behind, Outside}
+use Rattle.receiver.specs.declared.outset.Offset.{Offset}
+use Rattle.receiver.specs.declared.outset.Offset.the-variants.{Behind, Outside}
 use Rattle.receiver.specs.declared.outset.Start.{Start}
 use Rattle.receiver.specs.declared.outset.Start.the-variants.{Reads, Loses}
 use Rattle.receiver.specs.declared.walk.Gain.{Gain}
@@ -38,25 +41,35 @@ use Rattle.receiver.specs.declared.walk.Phase.the-variants.{Lost, Head, 
 use Rattle.receiver.specs.declared.walk.Turn.{Turn}
 use Rattle.receiver.specs.declared.walk.Turn.the-variants.{More, Stop}
 use Rattle.receiver.specs.declared.walk.Walk.{Walk}
+use Rattle.receiver.specs.Place.{placeAt, startOf, ownOf}
+use Rattle.receiver.specs.Call.{countedOf}
 use Rattle.receiver.specs.Kind.{kindOf}
 use Rattle.receiver.specs.Low.{llep}
 use Rattle.receiver.specs.Lows.{toldOf, repairedOf}
-use Rattle.receiver.specs.Outset.{placeOf, setOutOf, uponOf}
+use Rattle.receiver.specs.Outset.{placeOf, setOutOf, uponOf, lostAt}
 use Rattle.receiver.specs.Turns.{advanceOf}
 
--- the same receiver in this stage, reading at this place, in this phase and with this kept; a find, and the total that it carries
-abbrev pub stepWith : Receiver → Stage → ℕ → Phase → Kept → Find → ℕ → Step
-stepWith r s at p k f e = record {
-  receiver = record { size = r .size; stream = r .stream; limit = r .limit; stage = s; walk = record { at = at; phase = p; kept = k } };
-  find = f;
-  about = record { repaired = e };
-}
+-- the same receiver in this stage, with this walk
+abbrev pub receiverWith : Receiver → Stage → Walk → Receiver
+receiverWith r s w = record { size = r .size; stream = r .stream; limit = r .limit; count = r .count; stage = s; walk = w }
 
-abbrev pub stepOf : Receiver → Stage → ℕ → Phase → Kept → Find → Step
-stepOf r s at p k f = stepWith r s at p k f 0
+-- a find, and what it carries
+abbrev pub stepWith : Receiver → Stage → Walk → Find → About → Step
+stepWith r s w f a = record { receiver = receiverWith r s w; find = f; about = a }
 
-abbrev pub sameOf : Receiver → Find → Step
-sameOf r f = record { receiver = r; find = f; about = record { repaired = 0 } }
+-- what a find of this place carries that is no packet
+abbrev pub noneOf : Place → About
+noneOf p = record { repaired = 0; at = p }
+
+-- reading at this place, in this phase and with this kept
+abbrev pub walkOf : Receiver → ℕ → Phase → Kept → Walk
+walkOf r at p k = record { at = at; phase = p; began = r .walk .began; kept = k }
+
+abbrev pub stepOf : Receiver → Stage → ℕ → Phase → Kept → Find → Place → Step
+stepOf r s at p k f g = stepWith r s (walkOf r at p k) f (noneOf g)
+
+abbrev pub sameOf : Receiver → Find → Place → Step
+sameOf r f g = record { receiver = r; find = f; about = noneOf g }
 
 abbrev pub pieceOf : ℕ → ℕ → Role → Piece
 pieceOf from to role = record { from = from; to = to; role = role }
@@ -65,17 +78,19 @@ pieceOf from to role = record { from = from; to = to; role = role }
 abbrev pub gaveOf : Step → Piece → Turned
 gaveOf q p = record { receiver = q .receiver; piece = p; told = T.Gives (q .find); about = q .about }
 
-abbrev pub wentOf : Receiver → Stage → ℕ → Phase → Kept → Piece → Told → ℕ → Turned
-wentOf r s at f k p t e = record {
-  receiver = record { size = r .size; stream = r .stream; limit = r .limit; stage = s; walk = record { at = at; phase = f; kept = k } };
-  piece = p;
-  told = t;
-  about = record { repaired = e };
-}
+abbrev pub wentOf : Receiver → Stage → Walk → Piece → Told → About → Turned
+wentOf r s w p t a = record { receiver = receiverWith r s w; piece = p; told = t; about = a }
+
+-- the stamp by the receiver's own count
+abbrev pub stampOf : Receiver → Stamp
+stampOf r = ownOf (r .count)
+
+abbrev pub onOf : Receiver → Stage → Walk → Piece → Turned
+onOf r s w p = wentOf r s w p T.More (noneOf (startOf (stampOf r)))
 
 -- 6, 8: nothing is read
 abbrev pub sameTurn : Receiver → ℕ → Turned
-sameTurn r n = gaveOf (sameOf r (F.Notice n)) (pieceOf 0 0 R.Passed)
+sameTurn r n = gaveOf (sameOf r (F.Notice n) (startOf (stampOf r))) (pieceOf 0 0 R.Passed)
 
 -- THE TP'S HEADER: "the checks of .. 8, 7, 9 in this order"
 abbrev pub saysOf : Option ℕ → Top
@@ -91,35 +106,40 @@ topOf stream tp =
 -- 7, 9: its payload is dropped
 abbrev pub topTurn : Top → Receiver → ℕ → Turned
 topTurn Elsewhere r len = sameTurn r 8
-topTurn (Dropped n) r len = gaveOf (stepOf r Fresh 0 Lost Empty (F.Notice n)) (pieceOf 4 len R.Passed)
-topTurn (Says low o) r len = wentOf r (cond low (Low o) (Due o)) 4 (r .walk .phase) (r .walk .kept) (pieceOf 4 4 R.Passed) T.More 0
+topTurn (Dropped n) r len =
+    gaveOf (stepOf (countedOf r) Fresh 0 Lost Empty (F.Notice n) (startOf (stampOf (countedOf r)))) (pieceOf 4 len R.Passed)
+topTurn (Says low o) r len =
+    onOf (countedOf r) (cond low (Low o) (Due o)) (walkOf r 4 (r .walk .phase) (r .walk .kept)) (pieceOf 4 4 R.Passed)
 
 -- 10, 11, 21: the rest is dropped
-abbrev pub dropTurn : Receiver → ℕ → Role → ℕ → Turned
-dropTurn r len role n = gaveOf (stepOf r Plain len Lost Empty (F.Notice n)) (pieceOf (r .walk .at) len role)
+abbrev pub dropTurn : Receiver → ℕ → Role → ℕ → Place → Turned
+dropTurn r len role n g = gaveOf (stepOf r Plain len Lost Empty (F.Notice n) g) (pieceOf (r .walk .at) len role)
 
 -- ONE LLEP with its end byte
 abbrev pub llepTurn : Llep → Receiver → ℕ → ℕ → Turned
-llepTurn L.Broken r o len = dropTurn r len R.Broken 11
+llepTurn L.Broken r o len = dropTurn r len R.Broken 11 (placeAt (stampOf r) (r .walk .at))
 llepTurn (L.Whole h more) r o len =
-    wentOf r (cond more (Low o) (Due o)) (r .walk .at + 7 + h .size) (r .walk .phase) (r .walk .kept)
-    (pieceOf (r .walk .at) (r .walk .at + 7 + h .size) (R.Llep h)) (toldOf (kindOf h) h (r .walk .at)) (repairedOf (kindOf h) h)
+    wentOf r (cond more (Low o) (Due o)) (walkOf r (r .walk .at + 7 + h .size) (r .walk .phase) (r .walk .kept))
+    (pieceOf (r .walk .at) (r .walk .at + 7 + h .size) (R.Llep h)) (toldOf (kindOf h) h (r .walk .at))
+    (record { repaired = repairedOf (kindOf h) h; at = placeAt (stampOf r) (r .walk .at) })
 
 -- THE OUTSET: in step at once, or the bytes before the offset passed over
 abbrev pub outTurn : Start → Receiver → ℕ → ℕ → Turned
-outTurn (Reads x) r n len = wentOf r Plain (x .at) (x .phase) (x .kept) (pieceOf (r .walk .at) (x .at) R.Passed) T.More 0
+outTurn (Reads x) r n len = onOf r Plain x (pieceOf (r .walk .at) (x .at) R.Passed)
 outTurn (Loses i) r n len =
-    gaveOf (stepOf r Plain (r .walk .at + n) (uponOf (r .walk .at + n) len) Empty (F.Notice i)) (pieceOf (r .walk .at) (r .walk .at + n) R.Passed)
+    gaveOf (stepOf r Plain (r .walk .at + n) (uponOf (r .walk .at + n) len) Empty (F.Notice i) (lostAt i (stampOf r) (r .walk .began)))
+    (pieceOf (r .walk .at) (r .walk .at + n) R.Passed)
 
-abbrev pub dueTurn : Place → Receiver → List ℕ → Turned
-dueTurn (Outside n) r tp = dropTurn r (length tp) R.Passed n
+abbrev pub dueTurn : Offset → Receiver → List ℕ → Turned
+dueTurn (Outside n) r tp = dropTurn r (length tp) R.Passed n (startOf (stampOf r))
 dueTurn (Behind n) r tp = outTurn (setOutOf (r .walk) n tp) r n (length tp)
 
 -- AMONG ORDINARY BYTES: what a turn gained; none ends the TP
-abbrev pub tellOf : Gain → Receiver → Walk → Step
-tellOf G.Nothing r w = stepOf r Fresh 0 (w .phase) (w .kept) F.Nothing
-tellOf (G.Notice n) r w = stepOf r Plain (w .at) (w .phase) (w .kept) (F.Notice n)
-tellOf (G.Packet c e n) r w = stepWith r Plain (w .at) (w .phase) (w .kept) (F.Ordinary c n) e
+abbrev pub tellOf : Gain → Receiver → Stamp → Walk → Step
+tellOf G.Nothing r t w =
+    stepWith r Fresh (record { at = 0; phase = w .phase; began = w .began; kept = w .kept }) F.Nothing (noneOf (startOf t))
+tellOf (G.Notice n) r t w = stepWith r Plain w (F.Notice n) (noneOf (w .began))
+tellOf (G.Packet c e g n) r t w = stepWith r Plain w (F.Ordinary c n) (record { repaired = e; at = g })
 
 -- what a turn from one phase to another read
 abbrev pub headRole : Phase → Role
@@ -130,7 +150,7 @@ headRole (Body h n) = R.Whole h
 
 abbrev pub dataRole : Kept → Role
 dataRole Empty = R.Skipped
-dataRole (Of c e n) = R.Kept n
+dataRole (Of c e g n) = R.Kept n
 
 abbrev pub roleOf : Phase → Kept → Phase → Role
 roleOf Lost k q = R.Passed
@@ -142,14 +162,14 @@ abbrev pub readOf : Walk → Walk → Piece
 readOf w x = pieceOf (w .at) (x .at) (roleOf (w .phase) (w .kept) (x .phase))
 
 abbrev pub ordinaryTurn : Turn → Receiver → Turned
-ordinaryTurn (More x) r = wentOf r Plain (x .at) (x .phase) (x .kept) (readOf (r .walk) x) T.More 0
-ordinaryTurn (Stop a) r = gaveOf (tellOf (a .gain) r (a .walk)) (readOf (r .walk) (a .walk))
+ordinaryTurn (More x) r = onOf r Plain x (readOf (r .walk) x)
+ordinaryTurn (Stop a) r = gaveOf (tellOf (a .gain) r (stampOf r) (a .walk)) (readOf (r .walk) (a .walk))
 
 abbrev pub stageTurn : Stage → Receiver → List ℕ → Turned
 stageTurn Fresh r tp = topTurn (topOf (r .stream) tp) r (length tp)
 stageTurn (Low o) r tp = llepTurn (llep (drop (r .walk .at) tp)) r o (length tp)
 stageTurn (Due o) r tp = dueTurn (placeOf o (r .walk .at) (length tp)) r tp
-stageTurn Plain r tp = ordinaryTurn (advanceOf (r .limit) (r .walk) tp) r
+stageTurn Plain r tp = ordinaryTurn (advanceOf (r .limit) (stampOf r) (r .walk) tp) r
 
 -- THE TURN
 unfoldable pub turnOf : Receiver → List ℕ → Turned

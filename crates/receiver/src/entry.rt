@@ -9,14 +9,18 @@ ghost use Rattle.receiver.specs.declared.entry.Begun.the-variants as B;
 ghost use Rattle.receiver.specs.declared.walk.Kept.the-variants.{Empty};
 ghost use Rattle.receiver.specs.declared.walk.Phase.the-variants.{Lost};
 ghost use Rattle.receiver.specs.State.{Able};
-ghost use Rattle.receiver.specs.Call.{firstCall, stageCall};
+ghost use Rattle.receiver.specs.Place.{startOf};
+ghost use Rattle.receiver.specs.Call.{countedOf, firstCall, stageCall};
 ghost use Rattle.receiver.specs.Pieces.{topOf, stepOf};
 ghost use Rattle.receiver.specs.InStages.{Lent, Begins};
 use crate::Find;
 use crate::Receiver;
 use crate::Stage;
+use crate::Stamp;
 use crate::Step;
 use crate::stages;
+use crate::stages::Stamps;
+use crate::stamps;
 use crate::walk::Kept;
 use crate::walk::Phase;
 use wire::TpWord;
@@ -43,11 +47,19 @@ fn tp_word(tp: &[u8]) -> u32
 }
 
 // Out of step, the TP dropped.
-fn drop_all(r: Receiver, number: u8) -> Begun
-    ensures { λ q. ⌜ q ≡ B.Gives (stepOf r Fresh 0 Lost Empty (F.Notice number)) ⌝ }
+fn drop_all(r: Receiver, stamp: Stamp, number: u8) -> Begun
+    ensures { λ q. ⌜ q ≡ B.Gives (stepOf r Fresh 0 Lost Empty (F.Notice number) (startOf stamp)) ⌝ }
 {
     let find = Find::Notice(number);
-    Begun::Gives(stages::step_to(r, Stage::Fresh, 0, Phase::Lost, Kept::Empty, find))
+    Begun::Gives(stages::step_to(
+        r,
+        Stage::Fresh,
+        0,
+        Phase::Lost,
+        Kept::Empty,
+        find,
+        stamps::start(stamp),
+    ))
 }
 
 // What a TP's header says: 8, 7, 9, or what follows it.
@@ -69,26 +81,29 @@ pub fn read_top(stream: u8, tp: &[u8]) -> Top
 }
 
 // A TP's first call.
-fn first(r: Receiver, tp: &[u8]) -> Begun
+fn first(r: Receiver, t: Stamps, tp: &[u8]) -> Begun
     requires { ⌜ Able r × Lent r 4 (now tp) ⌝ }
-    ensures { λ q. ⌜ Begins (firstCall r (now (tp .entry))) r (now (tp .entry)) q ⌝ }
+    ensures { λ q. ⌜ Begins (firstCall r (countedOf r) t (now (tp .entry))) (countedOf r) (t .now) (now (tp .entry)) q ⌝ }
 {
     match read_top(r.stream, tp) {
-        Top::Elsewhere => Begun::Gives(stages::step_same(r, Find::Notice(8))),
-        Top::Dropped(number) => drop_all(r, number),
+        Top::Elsewhere => {
+            let find = Find::Notice(8);
+            Begun::Gives(stages::step_same(r, find, stamps::start(t.before)))
+        }
+        Top::Dropped(number) => drop_all(stages::counted(r), t.now, number),
         Top::Says { low, offset } => Begun::Part { low, offset, at: 4 },
     }
 }
 
-pub fn begin(r: Receiver, tp: &[u8]) -> Begun
+pub fn begin(r: Receiver, t: Stamps, tp: &[u8]) -> Begun
     requires { ⌜ Able r × (length (now tp) ≡ r .size) ⌝ }
-    ensures { λ q. ⌜ Begins (stageCall (r .stage) r (now (tp .entry))) r (now (tp .entry)) q ⌝ }
+    ensures { λ q. ⌜ Begins (stageCall (r .stage) r (countedOf r) t (now (tp .entry))) (countedOf r) (t .now) (now (tp .entry)) q ⌝ }
 {
     let stage = r.stage;
     let w = r.walk;
     let at = w.at;
     match stage {
-        Stage::Fresh => first(r, tp),
+        Stage::Fresh => first(r, t, tp),
         Stage::Low(offset) => Begun::Part {
             low: true,
             offset,

@@ -6,6 +6,7 @@ ghost use Rattle.receiver.specs.Kind.{kindOf};
 ghost use Rattle.receiver.specs.Low.{tagOf, totalOf};
 ghost use Rattle.receiver.specs.State.{Roomy};
 ghost use Rattle.receiver.specs.Turns.{goes, stops, holdsOf, emptyOf, meetsOf, openedOf, wholeOf, fitsOf, furtherOf, admitOf, handedOf, finishOf};
+use crate::Place;
 use crate::kind;
 use crate::kind::Kind;
 use crate::walk::Answer;
@@ -17,19 +18,36 @@ use crate::walk::Walk;
 use wire::Header;
 use wire::Read;
 
-pub fn stop(at: usize, phase: Phase, kept: Kept, gain: Gain) -> Turn
-    ensures { λ r. ⌜ r ≡ stops at phase kept gain ⌝ }
+// What a packet is known by.
+pub struct Tag {
+    content: u8,
+    repaired: u64,
+    began: Place,
+}
+
+pub fn stop(at: usize, phase: Phase, began: Place, kept: Kept, gain: Gain) -> Turn
+    ensures { λ r. ⌜ r ≡ stops at phase began kept gain ⌝ }
 {
     Turn::Stop(Answer {
-        walk: Walk { at, phase, kept },
+        walk: Walk {
+            at,
+            phase,
+            began,
+            kept,
+        },
         gain,
     })
 }
 
-fn more(at: usize, phase: Phase, kept: Kept) -> Turn
-    ensures { λ r. ⌜ r ≡ goes at phase kept ⌝ }
+fn more(at: usize, phase: Phase, began: Place, kept: Kept) -> Turn
+    ensures { λ r. ⌜ r ≡ goes at phase began kept ⌝ }
 {
-    Turn::More(Walk { at, phase, kept })
+    Turn::More(Walk {
+        at,
+        phase,
+        began,
+        kept,
+    })
 }
 
 fn empty(kept: Kept) -> bool
@@ -40,6 +58,7 @@ fn empty(kept: Kept) -> bool
         Kept::Of {
             content: _,
             repaired: _,
+            began: _,
             len: _,
         } => false,
     }
@@ -53,6 +72,7 @@ fn holds(kept: Kept, content: u8) -> bool
         Kept::Of {
             content: c,
             repaired: _,
+            began: _,
             len: _,
         } => c == content,
     }
@@ -83,114 +103,128 @@ fn joined(repaired: u64, flips: u8) -> u64
 }
 
 // Into an EP whose data are kept behind len bytes of this packet, if the room has place for them.
-fn fits(at: usize, header: Header, content: u8, repaired: u64, len: usize, cap: usize) -> Turn
+fn fits(at: usize, header: Header, began: Place, tag: Tag, len: usize, cap: usize) -> Turn
     requires { ⌜ len ≤ cap ⌝ }
-    ensures { λ r. ⌜ r ≡ fitsOf at header (tagOf content repaired) len cap ⌝ }
+    ensures { λ r. ⌜ r ≡ fitsOf at header began (tagOf (tag .content) (tag .repaired) (tag .began)) len cap ⌝ }
 {
     let size = header.size;
     let body = Phase::Body { header, left: size };
+    let first = tag.began;
     if size <= cap - len {
         let kept = Kept::Of {
-            content,
-            repaired,
+            content: tag.content,
+            repaired: tag.repaired,
+            began: first,
             len,
         };
-        return more(at, body, kept);
+        return more(at, body, began, kept);
     }
-    stop(at, body, Kept::Empty, Gain::Notice(15))
+    stop(at, body, began, Kept::Empty, Gain::Notice(15))
 }
 
-fn further(at: usize, header: Header, kept: Kept, cap: usize) -> Turn
+fn further(at: usize, header: Header, began: Place, kept: Kept, cap: usize) -> Turn
     requires { ⌜ Roomy cap kept 0 ⌝ }
-    ensures { λ r. ⌜ r ≡ furtherOf at header kept cap ⌝ }
+    ensures { λ r. ⌜ r ≡ furtherOf at header began kept cap ⌝ }
 {
     let size = header.size;
     match kept {
-        Kept::Empty => more(at, Phase::Body { header, left: size }, kept),
+        Kept::Empty => more(at, Phase::Body { header, left: size }, began, kept),
         Kept::Of {
             content,
             repaired,
+            began: first,
             len,
         } => {
-            let total = joined(repaired, header.flips);
-            fits(at, header, content, total, len, cap)
+            let tag = Tag {
+                content,
+                repaired: joined(repaired, header.flips),
+                began: first,
+            };
+            fits(at, header, began, tag, len, cap)
         }
     }
 }
 
 // Into the EP of a header that fits, or that got 14: 16, 15.
-pub fn admit(at: usize, header: Header, kept: Kept, cap: usize) -> Turn
+pub fn admit(at: usize, header: Header, began: Place, kept: Kept, cap: usize) -> Turn
     requires { ⌜ Roomy cap kept 0 ⌝ }
-    ensures { λ r. ⌜ r ≡ admitOf (kindOf header) at header kept cap ⌝ }
+    ensures { λ r. ⌜ r ≡ admitOf (kindOf header) at header began kept cap ⌝ }
 {
     let size = header.size;
-    let content = header.content;
     let flips = header.flips as u64;
+    let tag = Tag {
+        content: header.content,
+        repaired: flips,
+        began,
+    };
     let inside = Phase::Body { header, left: size };
     match kind::kind_of(header) {
-        Kind::Fill => more(at, inside, Kept::Empty),
-        Kind::Reserved => stop(at, inside, Kept::Empty, Gain::Notice(16)),
-        Kind::Complete => fits(at, header, content, flips, 0, cap),
-        Kind::First => fits(at, header, content, flips, 0, cap),
-        Kind::Middle => further(at, header, kept, cap),
-        Kind::Last => further(at, header, kept, cap),
+        Kind::Fill => more(at, inside, began, Kept::Empty),
+        Kind::Reserved => stop(at, inside, began, Kept::Empty, Gain::Notice(16)),
+        Kind::Complete => fits(at, header, began, tag, 0, cap),
+        Kind::First => fits(at, header, began, tag, 0, cap),
+        Kind::Middle => further(at, header, began, kept, cap),
+        Kind::Last => further(at, header, began, kept, cap),
     }
 }
 
 // A header is whole: 14 if it doesn't fit what is kept, else into its EP.
-fn opened(at: usize, header: Header, kept: Kept, cap: usize) -> Turn
+fn opened(at: usize, header: Header, began: Place, kept: Kept, cap: usize) -> Turn
     requires { ⌜ Roomy cap kept 0 ⌝ }
-    ensures { λ r. ⌜ r ≡ openedOf at header kept cap ⌝ }
+    ensures { λ r. ⌜ r ≡ openedOf at header began kept cap ⌝ }
 {
     if meets(kind::kind_of(header), kept, header.content) {
-        return admit(at, header, kept, cap);
+        return admit(at, header, began, kept, cap);
     }
-    stop(at, Phase::Judged(header), Kept::Empty, Gain::Notice(14))
+    let judged = Phase::Judged(header);
+    stop(at, judged, began, Kept::Empty, Gain::Notice(14))
 }
 
 // Six bytes are there.
-pub fn whole(at: usize, word: u64, kept: Kept, cap: usize) -> Turn
+pub fn whole(at: usize, word: u64, began: Place, kept: Kept, cap: usize) -> Turn
     requires { ⌜ Roomy cap kept 0 ⌝ }
-    ensures { λ r. ⌜ r ≡ wholeOf at (headerIn word) kept cap ⌝ }
+    ensures { λ r. ⌜ r ≡ wholeOf at (headerIn word) began kept cap ⌝ }
 {
     match wire::read_header(word) {
-        Read::Beyond => stop(at, Phase::Lost, Kept::Empty, Gain::Notice(12)),
-        Read::Whole(header) => opened(at, header, kept, cap),
+        Read::Beyond => stop(at, Phase::Lost, began, Kept::Empty, Gain::Notice(12)),
+        Read::Whole(header) => opened(at, header, began, kept, cap),
     }
 }
 
-fn handed(at: usize, kept: Kept) -> Turn
-    ensures { λ r. ⌜ r ≡ handedOf at kept ⌝ }
+fn handed(at: usize, began: Place, kept: Kept) -> Turn
+    ensures { λ r. ⌜ r ≡ handedOf at began kept ⌝ }
 {
     let next = Phase::Head { have: 0, word: 0 };
     match kept {
-        Kept::Empty => more(at, next, kept),
+        Kept::Empty => more(at, next, began, kept),
         Kept::Of {
             content,
             repaired,
+            began: first,
             len,
         } => {
             let packet = Gain::Packet {
                 content,
                 repaired,
+                began: first,
                 len,
             };
-            stop(at, next, Kept::Empty, packet)
+            stop(at, next, began, Kept::Empty, packet)
         }
     }
 }
 
 // The last byte of an EP is read.
-pub fn finish(at: usize, header: Header, kept: Kept) -> Turn
-    ensures { λ r. ⌜ r ≡ finishOf (kindOf header) at kept ⌝ }
+pub fn finish(at: usize, header: Header, began: Place, kept: Kept) -> Turn
+    ensures { λ r. ⌜ r ≡ finishOf (kindOf header) at began kept ⌝ }
 {
     let next = Phase::Head { have: 0, word: 0 };
     match kind::kind_of(header) {
-        Kind::Fill => more(at, next, kept),
-        Kind::Reserved => more(at, next, kept),
-        Kind::Complete => handed(at, kept),
-        Kind::First => more(at, next, kept),
-        Kind::Middle => more(at, next, kept),
-        Kind::Last => handed(at, kept),
+        Kind::Fill => more(at, next, began, kept),
+        Kind::Reserved => more(at, next, began, kept),
+        Kind::Complete => handed(at, began, kept),
+        Kind::First => more(at, next, began, kept),
+        Kind::Middle => more(at, next, began, kept),
+        Kind::Last => handed(at, began, kept),
     }
 }

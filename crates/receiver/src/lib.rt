@@ -3,7 +3,7 @@ ghost use mathlib.Core.Path.{_≡_};
 ghost use Prim.Native.Nat.{_≤_};
 ghost use lib.ListN.{length, take, drop};
 ghost use Rattle.receiver.specs.State.{Able};
-ghost use Rattle.receiver.specs.Call.{callOf, Gives, freshOf, gapOf, OpenedAs, dataOf, lasts};
+ghost use Rattle.receiver.specs.Call.{callAs, callOf, always, Gives, freshOf, gapOf, pendingOf, underWay, OpenedAs, dataOf, lasts};
 ghost use Rattle.receiver.specs.Turn.{goesOn, TurnedAs};
 
 mod entry;
@@ -13,9 +13,11 @@ mod low;
 mod outset;
 mod pieces;
 mod stages;
+mod stamps;
 mod walk;
 
 use stages::Course;
+use stages::Stamps;
 use walk::Kept;
 use walk::Phase;
 use walk::Walk;
@@ -45,10 +47,24 @@ pub enum Stage {
     Plain,
 }
 
+// By what a TP is known: its number, and the byte of a recording at which it stands, if that is told.
+pub struct Stamp {
+    pub number: u64,
+    pub byte: u64,
+}
+
+// A place of a TP's payload.
+pub struct Place {
+    pub stamp: Stamp,
+    pub at: usize,
+}
+
+// `count` is that of the TPs of its length and stream given since opening.
 pub struct Receiver {
     size: usize,
     stream: u8,
     limit: usize,
+    count: u64,
     stage: Stage,
     walk: Walk,
 }
@@ -92,9 +108,16 @@ pub enum Opened {
 }
 
 // What a find carries beside it: how many bits were repaired in the EP headers of a packet, and in its end byte if it is
-// low-latency; 0 for any other find.
+// low-latency; 0 for any other find. And the place of its first EP byte, or of the EP that a notice names; else place 0.
 pub struct About {
     pub repaired: u64,
+    pub at: Place,
+}
+
+// Where what is unfinished began.
+pub enum Unfinished {
+    Nothing,
+    From(Place),
 }
 
 pub struct Step {
@@ -103,19 +126,21 @@ pub struct Step {
     pub about: About,
 }
 
-// Out of step, before a TP.
-fn fresh(size: usize, stream: u8, limit: usize) -> Receiver
+// Out of step, before a TP, so many counted.
+fn fresh(size: usize, stream: u8, limit: usize, count: u64) -> Receiver
     requires { ⌜ 16 ≤ size ⌝ }
-    ensures { λ r. ⌜ (r ≡ freshOf size stream limit) × Able r ⌝ }
+    ensures { λ r. ⌜ (r ≡ freshOf size stream limit count) × Able r ⌝ }
 {
     Receiver {
         size,
         stream,
         limit,
+        count,
         stage: Stage::Fresh,
         walk: Walk {
             at: 0,
             phase: Phase::Lost,
+            began: stamps::start(stamps::own(0)),
             kept: Kept::Empty,
         },
     }
@@ -136,7 +161,27 @@ pub fn open(tp: usize, stream: u8, room: &[u8]) -> Opened
     if 131072 < room.len() {
         return Opened::Refused;
     }
-    Opened::Ready(fresh(tp, stream, room.len()))
+    Opened::Ready(fresh(tp, stream, room.len(), 0))
+}
+
+// The next find of the TP, by these stamps.
+fn call(r: Receiver, t: Stamps, tp: &[u8], room: &mut [u8]) -> Step
+    requires { ⌜ Able r ⌝ }
+    ensures { λ q. ⌜ Gives (callAs r t (now (tp .entry)) (now (room .entry))) q (now (tp .entry)) (now (room .exit)) ⌝ }
+{
+    if room.len() != r.limit {
+        return stages::step_same(r, Find::Refused, stamps::start(t.before));
+    }
+    if tp.len() != r.size {
+        return stages::step_same(r, Find::Notice(6), stamps::start(t.before));
+    }
+    match stages::take_up(r, t, tp) {
+        Course::Gives(step) => step,
+        Course::Reads(w) => {
+            let a = walk::onward(w, t.now, tp, room);
+            stages::tell(stages::counted(r), t.now, a)
+        }
+    }
 }
 
 // The next find of the TP; the same TP and room are lent until one says none.
@@ -144,15 +189,54 @@ pub fn next(r: Receiver, tp: &[u8], room: &mut [u8]) -> Step
     requires { ⌜ Able r ⌝ }
     ensures { λ q. ⌜ Gives (callOf r (now (tp .entry)) (now (room .entry))) q (now (tp .entry)) (now (room .exit)) ⌝ }
 {
-    if room.len() != r.limit {
-        return stages::step_same(r, Find::Refused);
+    call(r, stages::own_stamps(r), tp, room)
+}
+
+// The same by the caller's stamp for this TP in place of the count, which moves on.
+pub fn next_as(r: Receiver, stamp: Stamp, tp: &[u8], room: &mut [u8]) -> Step
+    requires { ⌜ Able r ⌝ }
+    ensures { λ q. ⌜ Gives (callAs r (always stamp) (now (tp .entry)) (now (room .entry))) q (now (tp .entry)) (now (room .exit)) ⌝ }
+{
+    let t = Stamps {
+        before: stamp,
+        now: stamp,
+    };
+    call(r, t, tp, room)
+}
+
+// Where what is unfinished began: the packet that is kept, else the header or EP under way.
+pub fn pending(r: Receiver) -> Unfinished
+    requires { ⌜ Able r ⌝ }
+    ensures { λ q. ⌜ q ≡ pendingOf (r .walk) ⌝ }
+{
+    let w = r.walk;
+    let kept = w.kept;
+    match kept {
+        Kept::Empty => under_way(w),
+        Kept::Of {
+            content: _,
+            repaired: _,
+            began,
+            len: _,
+        } => Unfinished::From(began),
     }
-    if tp.len() != r.size {
-        return stages::step_same(r, Find::Notice(6));
-    }
-    match stages::take_up(r, tp) {
-        Course::Gives(step) => step,
-        Course::Reads(w) => stages::tell(r, walk::onward(w, tp, room)),
+}
+
+fn under_way(w: Walk) -> Unfinished
+    ensures { λ q. ⌜ q ≡ underWay (w .phase) (w .began) ⌝ }
+{
+    let phase = w.phase;
+    let began = w.began;
+    match phase {
+        Phase::Lost => Unfinished::Nothing,
+        Phase::Head { have, word: _ } => {
+            if have == 0 {
+                return Unfinished::Nothing;
+            }
+            Unfinished::From(began)
+        }
+        Phase::Judged(_) => Unfinished::From(began),
+        Phase::Body { header: _, left: _ } => Unfinished::From(began),
     }
 }
 
@@ -205,7 +289,7 @@ pub fn gap(r: Receiver) -> Receiver
     requires { ⌜ Able r ⌝ }
     ensures { λ q. ⌜ (q ≡ gapOf r) × Able q ⌝ }
 {
-    fresh(r.size, r.stream, r.limit)
+    fresh(r.size, r.stream, r.limit, r.count)
 }
 
 // As much of a stretch as there is.

@@ -20,14 +20,15 @@ pub enum Llep {
     Whole { header: Header, more: bool },
 }
 
-// What a walk comes to: the broken place; the part's end; or a find, the total that it carries, whether another LLEP
-// follows, and the place behind it.
+// What a walk comes to: the broken place; the part's end; or a find, the total that it carries, its LLEP's place, whether
+// another LLEP follows, and the place behind it.
 pub enum Lows {
     Broken(usize),
     End(usize),
     Gives {
         find: Find,
         repaired: u64,
+        from: usize,
         more: bool,
         end: usize,
     },
@@ -100,12 +101,13 @@ fn gone(more: bool, end: usize) -> One
     One::Stop(Lows::End(end))
 }
 
-fn give(find: Find, repaired: u64, more: bool, end: usize) -> One
-    ensures { λ r. ⌜ r ≡ gives find repaired more end ⌝ }
+fn give(find: Find, repaired: u64, from: usize, more: bool, end: usize) -> One
+    ensures { λ r. ⌜ r ≡ gives find repaired from more end ⌝ }
 {
     One::Stop(Lows::Gives {
         find,
         repaired,
+        from,
         more,
         end,
     })
@@ -158,7 +160,7 @@ fn passed(header: Header, more: bool, at: usize, len: usize) -> One
     let end = at + 7 + size;
     match told(header, at, len) {
         Told::More => gone(more, end),
-        Told::Gives(find) => give(find, repaired(header), more, end),
+        Told::Gives(find) => give(find, repaired(header), at, more, end),
     }
 }
 

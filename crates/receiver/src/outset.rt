@@ -4,8 +4,11 @@ ghost use Prim.Native.Nat.{_+_, _≤_, _<_, _^_, min};
 ghost use lib.ListN.{length, drop};
 ghost use Rattle.wire.specs.Reading.{headerIn};
 ghost use Rattle.receiver.specs.State.{Settled};
-ghost use Rattle.receiver.specs.Outset.{placeOf, foreOf, uponOf, setOutOf};
+ghost use Rattle.receiver.specs.Outset.{placeOf, foreOf, uponOf, lostAt, setOutOf};
 ghost use Rattle.receiver.specs.InOutset.{behindOf, aheadOf};
+use crate::Place;
+use crate::Stamp;
+use crate::stamps;
 use crate::walk;
 use crate::walk::Phase;
 use crate::walk::Walk;
@@ -19,7 +22,7 @@ pub enum Fore {
 }
 
 // Where the first EP that begins here stands: not among the bytes from here on, by this notice, or behind so many of them.
-pub enum Place {
+pub enum Offset {
     Outside(u8),
     Behind(usize),
 }
@@ -75,20 +78,20 @@ fn forecast(tp: &[u8], at: usize, phase: Phase) -> Fore
 }
 
 // 10 if the offset points past the payload, 21 if before the low-latency part's end.
-pub fn place_of(offset: usize, at: usize, len: usize) -> Place
+pub fn place_of(offset: usize, at: usize, len: usize) -> Offset
     requires { ⌜ (offset < 2048) × (at ≤ len) ⌝ }
     ensures { λ q. ⌜ q ≡ placeOf offset at len ⌝ }
 {
     if offset == 2047 {
-        return Place::Behind(len - at);
+        return Offset::Behind(len - at);
     }
     if len <= offset + 4 {
-        return Place::Outside(10);
+        return Offset::Outside(10);
     }
     if offset + 4 < at {
-        return Place::Outside(21);
+        return Offset::Outside(21);
     }
-    Place::Behind(offset + 4 - at)
+    Offset::Behind(offset + 4 - at)
 }
 
 // In step from an offset on, if there is one.
@@ -101,6 +104,16 @@ pub fn upon(at: usize, len: usize) -> Phase
     Phase::Lost
 }
 
+// The place that the notice of a loss carries: 12 that of the header under way, 13 place 0.
+pub fn lost_at(number: u8, stamp: Stamp, began: Place) -> Place
+    ensures { λ r. ⌜ r ≡ lostAt number stamp began ⌝ }
+{
+    if number == 12 {
+        return began;
+    }
+    stamps::start(stamp)
+}
+
 // Sets about a TP's ordinary bytes, of which n stand before the first EP that begins here.
 pub fn set_out(w: Walk, n: usize, tp: &[u8]) -> Start
     requires { ⌜ (w .at + n ≤ length (now tp)) × Settled (w .phase) ⌝ }
@@ -108,6 +121,7 @@ pub fn set_out(w: Walk, n: usize, tp: &[u8]) -> Start
 {
     let at = w.at;
     let phase = w.phase;
+    let began = w.began;
     let kept = w.kept;
     let start = at + n;
     match forecast(tp, at, phase) {
@@ -116,6 +130,7 @@ pub fn set_out(w: Walk, n: usize, tp: &[u8]) -> Start
             Start::Reads(Walk {
                 at: start,
                 phase: there,
+                began,
                 kept,
             })
         }

@@ -7,10 +7,12 @@ ghost use Rattle.receiver.specs.State.{Sound, Settled};
 ghost use Rattle.receiver.specs.Low.{llep};
 ghost use Rattle.receiver.specs.Turns.{advanceOf};
 ghost use Rattle.receiver.specs.Outset.{placeOf, setOutOf};
-ghost use Rattle.receiver.specs.Pieces.{topOf, pieceOf, readOf, gaveOf, wentOf, sameTurn, topTurn, dropTurn, llepTurn, outTurn, dueTurn, headRole, dataRole, roleOf, ordinaryTurn};
+ghost use Rattle.receiver.specs.Pieces.{topOf, pieceOf, readOf, gaveOf, wentOf, sameTurn, topTurn, dropTurn, llepTurn, outTurn, dueTurn, headRole, dataRole, roleOf, ordinaryTurn, onOf};
+ghost use Rattle.receiver.specs.Place.{ownOf};
 use crate::About;
 use crate::Find;
 use crate::Piece;
+use crate::Place;
 use crate::Receiver;
 use crate::Role;
 use crate::Stage;
@@ -22,9 +24,10 @@ use crate::entry::Top;
 use crate::low;
 use crate::low::Llep;
 use crate::outset;
-use crate::outset::Place;
+use crate::outset::Offset;
 use crate::outset::Start;
 use crate::stages;
+use crate::stamps;
 use crate::walk;
 use crate::walk::Kept;
 use crate::walk::Phase;
@@ -46,21 +49,33 @@ fn gave(step: Step, piece: Piece) -> Turned
     }
 }
 
-fn went(r: Receiver, stage: Stage, walk: Walk, piece: Piece, told: Told, repaired: u64) -> Turned
-    ensures { λ q. ⌜ q ≡ wentOf r stage (walk .at) (walk .phase) (walk .kept) piece told repaired ⌝ }
+fn went(r: Receiver, stage: Stage, walk: Walk, piece: Piece, told: Told, about: About) -> Turned
+    ensures { λ q. ⌜ q ≡ wentOf r stage walk piece told about ⌝ }
 {
     Turned {
         receiver: Receiver {
             size: r.size,
             stream: r.stream,
             limit: r.limit,
+            count: r.count,
             stage,
             walk,
         },
         piece,
         told,
-        about: About { repaired },
+        about,
     }
+}
+
+// A piece without a find.
+fn on(r: Receiver, stage: Stage, walk: Walk, piece: Piece) -> Turned
+    ensures { λ q. ⌜ q ≡ onOf r stage walk piece ⌝ }
+{
+    let about = About {
+        repaired: 0,
+        at: stamps::start(stamps::own(r.count)),
+    };
+    went(r, stage, walk, piece, Told::More, about)
 }
 
 fn piece_of(from: usize, to: usize, role: Role) -> Piece
@@ -74,40 +89,57 @@ pub fn same(r: Receiver, number: u8) -> Turned
     ensures { λ q. ⌜ q ≡ sameTurn r number ⌝ }
 {
     let find = Find::Notice(number);
-    gave(stages::step_same(r, find), piece_of(0, 0, Role::Passed))
+    let place = stamps::start(stamps::own(r.count));
+    gave(
+        stages::step_same(r, find, place),
+        piece_of(0, 0, Role::Passed),
+    )
 }
 
-// The TP's header.
+// The TP's header; the receiver with this TP counted is c.
 pub fn first(r: Receiver, tp: &[u8]) -> Turned
     requires { ⌜ 4 ≤ length (now tp) ⌝ }
     ensures { λ q. ⌜ q ≡ topTurn (topOf (r .stream) (now (tp .entry))) r (length (now (tp .entry))) ⌝ }
 {
     let w = r.walk;
     let phase = w.phase;
+    let began = w.began;
     let kept = w.kept;
     match entry::read_top(r.stream, tp) {
         Top::Elsewhere => same(r, 8),
         Top::Dropped(number) => {
+            let c = stages::counted(r);
             let find = Find::Notice(number);
-            let step = stages::step_to(r, Stage::Fresh, 0, Phase::Lost, Kept::Empty, find);
+            let place = stamps::start(stamps::own(c.count));
+            let step = stages::step_to(c, Stage::Fresh, 0, Phase::Lost, Kept::Empty, find, place);
             gave(step, piece_of(4, tp.len(), Role::Passed))
         }
         Top::Says { low, offset } => {
             let stage = stages::low_stage(low, offset);
-            let there = Walk { at: 4, phase, kept };
-            went(r, stage, there, piece_of(4, 4, Role::Passed), Told::More, 0)
+            let there = Walk {
+                at: 4,
+                phase,
+                began,
+                kept,
+            };
+            on(
+                stages::counted(r),
+                stage,
+                there,
+                piece_of(4, 4, Role::Passed),
+            )
         }
     }
 }
 
 // Out of step, the rest of the TP dropped.
-fn drop_rest(r: Receiver, len: usize, role: Role, number: u8) -> Turned
-    ensures { λ q. ⌜ q ≡ dropTurn r len role number ⌝ }
+fn drop_rest(r: Receiver, len: usize, role: Role, number: u8, place: Place) -> Turned
+    ensures { λ q. ⌜ q ≡ dropTurn r len role number place ⌝ }
 {
     let w = r.walk;
     let at = w.at;
     let find = Find::Notice(number);
-    let step = stages::step_to(r, Stage::Plain, len, Phase::Lost, Kept::Empty, find);
+    let step = stages::step_to(r, Stage::Plain, len, Phase::Lost, Kept::Empty, find, place);
     gave(step, piece_of(at, len, role))
 }
 
@@ -119,6 +151,7 @@ fn behind(r: Receiver, offset: usize, header: Header, more: bool, len: usize) ->
     let w = r.walk;
     let at = w.at;
     let phase = w.phase;
+    let began = w.began;
     let kept = w.kept;
     let size = header.size;
     let end = at + 7 + size;
@@ -126,17 +159,21 @@ fn behind(r: Receiver, offset: usize, header: Header, more: bool, len: usize) ->
     let there = Walk {
         at: end,
         phase,
+        began,
         kept,
     };
     let told = low::told(header, at, len);
-    let repaired = low::repaired(header);
+    let about = About {
+        repaired: low::repaired(header),
+        at: stamps::of(stamps::own(r.count), at),
+    };
     went(
         r,
         stage,
         there,
         piece_of(at, end, Role::Llep(header)),
         told,
-        repaired,
+        about,
     )
 }
 
@@ -148,7 +185,10 @@ pub fn llep(r: Receiver, offset: usize, tp: &[u8]) -> Turned
     let w = r.walk;
     let at = w.at;
     match low::item(tp, at) {
-        Llep::Broken => drop_rest(r, tp.len(), Role::Broken, 11),
+        Llep::Broken => {
+            let place = stamps::of(stamps::own(r.count), at);
+            drop_rest(r, tp.len(), Role::Broken, 11, place)
+        }
         Llep::Whole { header, more } => behind(r, offset, header, more, tp.len()),
     }
 }
@@ -160,20 +200,15 @@ fn set_about(r: Receiver, n: usize, tp: &[u8]) -> Turned
 {
     let w = r.walk;
     let at = w.at;
+    let began = w.began;
     match outset::set_out(w, n, tp) {
-        Start::Reads(x) => went(
-            r,
-            Stage::Plain,
-            x,
-            piece_of(at, x.at, Role::Passed),
-            Told::More,
-            0,
-        ),
+        Start::Reads(x) => on(r, Stage::Plain, x, piece_of(at, x.at, Role::Passed)),
         Start::Loses(number) => {
             let start = at + n;
             let there = outset::upon(start, tp.len());
             let find = Find::Notice(number);
-            let step = stages::step_to(r, Stage::Plain, start, there, Kept::Empty, find);
+            let place = outset::lost_at(number, stamps::own(r.count), began);
+            let step = stages::step_to(r, Stage::Plain, start, there, Kept::Empty, find, place);
             gave(step, piece_of(at, start, Role::Passed))
         }
     }
@@ -187,8 +222,11 @@ pub fn due(r: Receiver, offset: usize, tp: &[u8]) -> Turned
     let w = r.walk;
     let at = w.at;
     match outset::place_of(offset, at, tp.len()) {
-        Place::Outside(number) => drop_rest(r, tp.len(), Role::Passed, number),
-        Place::Behind(n) => set_about(r, n, tp),
+        Offset::Outside(number) => {
+            let place = stamps::start(stamps::own(r.count));
+            drop_rest(r, tp.len(), Role::Passed, number, place)
+        }
+        Offset::Behind(n) => set_about(r, n, tp),
     }
 }
 
@@ -211,6 +249,7 @@ fn data_role(kept: Kept) -> Role
         Kept::Of {
             content: _,
             repaired: _,
+            began: _,
             len,
         } => Role::Kept(len),
     }
@@ -239,14 +278,15 @@ fn read(w: Walk, x: Walk) -> Piece
 // A header or what there is of it, or a run of data.
 pub fn plain(r: Receiver, tp: &[u8]) -> Turned
     requires { ⌜ Sound (r .limit) (length (now tp)) (r .walk) ⌝ }
-    ensures { λ q. ⌜ q ≡ ordinaryTurn (advanceOf (r .limit) (r .walk) (now (tp .entry))) r ⌝ }
+    ensures { λ q. ⌜ q ≡ ordinaryTurn (advanceOf (r .limit) (ownOf (r .count)) (r .walk) (now (tp .entry))) r ⌝ }
 {
     let w = r.walk;
-    match walk::advance(w, tp, r.limit) {
-        Turn::More(x) => went(r, Stage::Plain, x, read(w, x), Told::More, 0),
+    let stamp = stamps::own(r.count);
+    match walk::advance(w, stamp, tp, r.limit) {
+        Turn::More(x) => on(r, Stage::Plain, x, read(w, x)),
         Turn::Stop(a) => {
             let x = a.walk;
-            gave(stages::tell(r, a), read(w, x))
+            gave(stages::tell(r, stamp, a), read(w, x))
         }
     }
 }

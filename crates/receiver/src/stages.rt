@@ -11,21 +11,24 @@ ghost use Rattle.receiver.specs.declared.low.Lows.the-variants as L;
 ghost use Rattle.receiver.specs.declared.stages.Course.the-variants as C;
 ghost use Rattle.receiver.specs.State.{Able};
 ghost use Rattle.receiver.specs.Lows.{lowsOf};
-ghost use Rattle.receiver.specs.Call.{dueCall, stageCall};
+ghost use Rattle.receiver.specs.Call.{countIn, countedOf, stampsOf, dueCall, stageCall};
 ghost use Rattle.receiver.specs.Pieces.{sameOf, stepOf, stepWith, tellOf};
 ghost use Rattle.receiver.specs.InStages.{Lent, Leads, setCall, partCall};
 use crate::About;
 use crate::Find;
+use crate::Place;
 use crate::Receiver;
 use crate::Stage;
+use crate::Stamp;
 use crate::Step;
 use crate::entry;
 use crate::entry::Begun;
 use crate::low;
 use crate::low::Lows;
 use crate::outset;
-use crate::outset::Place;
+use crate::outset::Offset;
 use crate::outset::Start;
+use crate::stamps;
 use crate::walk::Answer;
 use crate::walk::Gain;
 use crate::walk::Kept;
@@ -38,99 +41,199 @@ pub enum Course {
     Reads(Walk),
 }
 
+// The stamps of a call: that of a find which leaves the receiver as it was (1, 6, 8), and that of any other.
+pub struct Stamps {
+    pub before: Stamp,
+    pub now: Stamp,
+}
+
+// The count with this TP, which is counted at its first call.
+fn raised(stage: Stage, count: u64) -> u64
+    ensures { λ q. ⌜ q ≡ countIn stage count ⌝ }
+{
+    match stage {
+        Stage::Fresh => stamps::counted(count),
+        Stage::Low(_) => count,
+        Stage::Due(_) => count,
+        Stage::Plain => count,
+    }
+}
+
+// The receiver with this TP counted.
+pub fn counted(r: Receiver) -> Receiver
+    ensures { λ q. ⌜ q ≡ countedOf r ⌝ }
+{
+    let stage = r.stage;
+    let walk = r.walk;
+    Receiver {
+        size: r.size,
+        stream: r.stream,
+        limit: r.limit,
+        count: raised(stage, r.count),
+        stage,
+        walk,
+    }
+}
+
+// The stamps by the receiver's own count.
+pub fn own_stamps(r: Receiver) -> Stamps
+    ensures { λ q. ⌜ q ≡ stampsOf r ⌝ }
+{
+    let c = counted(r);
+    Stamps {
+        before: stamps::own(r.count),
+        now: stamps::own(c.count),
+    }
+}
+
 // A find that carries a total, and where it leaves the receiver.
-fn step_with(r: Receiver, stage: Stage, walk: Walk, found: Find, repaired: u64) -> Step
-    ensures { λ q. ⌜ q ≡ stepWith r stage (walk .at) (walk .phase) (walk .kept) found repaired ⌝ }
+fn step_with(r: Receiver, stage: Stage, walk: Walk, found: Find, about: About) -> Step
+    ensures { λ q. ⌜ q ≡ stepWith r stage walk found about ⌝ }
 {
     Step {
         receiver: Receiver {
             size: r.size,
             stream: r.stream,
             limit: r.limit,
+            count: r.count,
             stage,
             walk,
         },
         find: found,
-        about: About { repaired },
+        about,
     }
 }
 
-// A find that carries none.
-pub fn step_to(r: Receiver, stage: Stage, at: usize, phase: Phase, kept: Kept, find: Find) -> Step
-    ensures { λ q. ⌜ q ≡ stepOf r stage at phase kept find ⌝ }
+// A find that carries none, of this place.
+pub fn step_to(
+    r: Receiver,
+    stage: Stage,
+    at: usize,
+    phase: Phase,
+    kept: Kept,
+    find: Find,
+    place: Place,
+) -> Step
+    ensures { λ q. ⌜ q ≡ stepOf r stage at phase kept find place ⌝ }
 {
-    step_with(r, stage, Walk { at, phase, kept }, find, 0)
+    let w = r.walk;
+    let began = w.began;
+    let walk = Walk {
+        at,
+        phase,
+        began,
+        kept,
+    };
+    let about = About {
+        repaired: 0,
+        at: place,
+    };
+    step_with(r, stage, walk, find, about)
 }
 
 // A find that leaves the receiver as it was.
-pub fn step_same(r: Receiver, find: Find) -> Step
-    ensures { λ q. ⌜ q ≡ sameOf r find ⌝ }
+pub fn step_same(r: Receiver, find: Find, place: Place) -> Step
+    ensures { λ q. ⌜ q ≡ sameOf r find place ⌝ }
 {
     Step {
         receiver: r,
         find,
-        about: About { repaired: 0 },
+        about: About {
+            repaired: 0,
+            at: place,
+        },
     }
 }
 
 // What the ordinary bytes gave; none ends the TP.
-pub fn tell(r: Receiver, a: Answer) -> Step
-    ensures { λ q. ⌜ q ≡ tellOf (a .gain) r (a .walk) ⌝ }
+pub fn tell(r: Receiver, stamp: Stamp, a: Answer) -> Step
+    ensures { λ q. ⌜ q ≡ tellOf (a .gain) r stamp (a .walk) ⌝ }
 {
     let w = a.walk;
-    let at = w.at;
     let phase = w.phase;
+    let began = w.began;
     let kept = w.kept;
     let gain = a.gain;
     match gain {
-        Gain::Nothing => step_to(r, Stage::Fresh, 0, phase, kept, Find::Nothing),
-        Gain::Notice(n) => step_to(r, Stage::Plain, at, phase, kept, Find::Notice(n)),
+        Gain::Nothing => {
+            let walk = Walk {
+                at: 0,
+                phase,
+                began,
+                kept,
+            };
+            let about = About {
+                repaired: 0,
+                at: stamps::start(stamp),
+            };
+            step_with(r, Stage::Fresh, walk, Find::Nothing, about)
+        }
+        Gain::Notice(n) => {
+            let about = About {
+                repaired: 0,
+                at: began,
+            };
+            step_with(r, Stage::Plain, w, Find::Notice(n), about)
+        }
         Gain::Packet {
             content,
             repaired,
+            began: first,
             len,
         } => {
             let find = Find::Ordinary { content, len };
-            step_with(r, Stage::Plain, w, find, repaired)
+            let about = About {
+                repaired,
+                at: first,
+            };
+            step_with(r, Stage::Plain, w, find, about)
         }
     }
 }
 
 // Out of step, the rest of the TP dropped.
-fn drop_rest(r: Receiver, len: usize, number: u8) -> Course
-    ensures { λ q. ⌜ q ≡ C.Gives (stepOf r Plain len Lost Empty (F.Notice number)) ⌝ }
+fn drop_rest(r: Receiver, len: usize, number: u8, place: Place) -> Course
+    ensures { λ q. ⌜ q ≡ C.Gives (stepOf r Plain len Lost Empty (F.Notice number) place) ⌝ }
 {
     let find = Find::Notice(number);
-    Course::Gives(step_to(r, Stage::Plain, len, Phase::Lost, Kept::Empty, find))
+    Course::Gives(step_to(r, Stage::Plain, len, Phase::Lost, Kept::Empty, find, place))
 }
 
 // Into the ordinary bytes, of which n stand before the first EP that begins here.
-fn set_about(r: Receiver, at: usize, n: usize, tp: &[u8]) -> Course
+fn set_about(r: Receiver, at: usize, n: usize, stamp: Stamp, tp: &[u8]) -> Course
     requires { ⌜ (at + n ≤ length (now tp)) × Lent r at (now tp) ⌝ }
-    ensures { λ q. ⌜ Leads (setCall r at n (now (tp .entry))) r (now (tp .entry)) q ⌝ }
+    ensures { λ q. ⌜ Leads (setCall r stamp at n (now (tp .entry))) r stamp (now (tp .entry)) q ⌝ }
 {
     let w = r.walk;
     let phase = w.phase;
+    let began = w.began;
     let kept = w.kept;
-    match outset::set_out(Walk { at, phase, kept }, n, tp) {
+    let walk = Walk {
+        at,
+        phase,
+        began,
+        kept,
+    };
+    match outset::set_out(walk, n, tp) {
         Start::Reads(x) => Course::Reads(x),
         Start::Loses(number) => {
             let start = at + n;
             let there = outset::upon(start, tp.len());
             let find = Find::Notice(number);
-            Course::Gives(step_to(r, Stage::Plain, start, there, Kept::Empty, find))
+            let place = outset::lost_at(number, stamp, began);
+            Course::Gives(step_to(r, Stage::Plain, start, there, Kept::Empty, find, place))
         }
     }
 }
 
 // Behind the low-latency part, which ends at `at`.
-fn due(r: Receiver, offset: usize, at: usize, tp: &[u8]) -> Course
+fn due(r: Receiver, offset: usize, at: usize, stamp: Stamp, tp: &[u8]) -> Course
     requires { ⌜ (offset < 2048) × Lent r at (now tp) ⌝ }
-    ensures { λ q. ⌜ Leads (dueCall r offset at (now (tp .entry))) r (now (tp .entry)) q ⌝ }
+    ensures { λ q. ⌜ Leads (dueCall r stamp offset at (now (tp .entry))) r stamp (now (tp .entry)) q ⌝ }
 {
     match outset::place_of(offset, at, tp.len()) {
-        Place::Outside(number) => drop_rest(r, tp.len(), number),
-        Place::Behind(n) => set_about(r, at, n, tp),
+        Offset::Outside(number) => drop_rest(r, tp.len(), number, stamps::start(stamp)),
+        Offset::Behind(n) => set_about(r, at, n, stamp, tp),
     }
 }
 
@@ -154,19 +257,21 @@ pub fn low_stage(more: bool, offset: usize) -> Stage
 }
 
 // The low-latency part, if there is one, and what is behind it.
-fn part(r: Receiver, low: bool, offset: usize, at: usize, tp: &[u8]) -> Course
+fn part(r: Receiver, low: bool, offset: usize, at: usize, stamp: Stamp, tp: &[u8]) -> Course
     requires { ⌜ (offset < 2048) × Lent r at (now tp) ⌝ }
-    ensures { λ q. ⌜ Leads (partCall low r offset at (now (tp .entry))) r (now (tp .entry)) q ⌝ }
+    ensures { λ q. ⌜ Leads (partCall low r stamp offset at (now (tp .entry))) r stamp (now (tp .entry)) q ⌝ }
 {
     let w = r.walk;
     let phase = w.phase;
+    let began = w.began;
     let kept = w.kept;
     match low_walk(low, tp, at) {
-        Lows::Broken(_) => drop_rest(r, tp.len(), 11),
-        Lows::End(i) => due(r, offset, i, tp),
+        Lows::Broken(i) => drop_rest(r, tp.len(), 11, stamps::of(stamp, i)),
+        Lows::End(i) => due(r, offset, i, stamp, tp),
         Lows::Gives {
             find,
             repaired,
+            from,
             more,
             end,
         } => {
@@ -174,22 +279,27 @@ fn part(r: Receiver, low: bool, offset: usize, at: usize, tp: &[u8]) -> Course
             let there = Walk {
                 at: end,
                 phase,
+                began,
                 kept,
             };
-            Course::Gives(step_with(r, stage, there, find, repaired))
+            let about = About {
+                repaired,
+                at: stamps::of(stamp, from),
+            };
+            Course::Gives(step_with(r, stage, there, find, about))
         }
     }
 }
 
 // Takes the TP up where it stands. Each part of the way is called once, so that the compiler makes one function of all.
-pub fn take_up(r: Receiver, tp: &[u8]) -> Course
+pub fn take_up(r: Receiver, t: Stamps, tp: &[u8]) -> Course
     requires { ⌜ Able r × (length (now tp) ≡ r .size) ⌝ }
-    ensures { λ q. ⌜ Leads (stageCall (r .stage) r (now (tp .entry))) r (now (tp .entry)) q ⌝ }
+    ensures { λ q. ⌜ Leads (stageCall (r .stage) r (countedOf r) t (now (tp .entry))) (countedOf r) (t .now) (now (tp .entry)) q ⌝ }
 {
     let w = r.walk;
-    match entry::begin(r, tp) {
+    match entry::begin(r, t, tp) {
         Begun::Gives(step) => Course::Gives(step),
-        Begun::Part { low, offset, at } => part(r, low, offset, at, tp),
+        Begun::Part { low, offset, at } => part(counted(r), low, offset, at, t.now, tp),
         Begun::Plain => Course::Reads(w),
     }
 }

@@ -4,10 +4,13 @@ ghost use Prim.Native.Nat.{_+_, _-_, _≤_, _<_, _^_};
 ghost use lib.ListN.{length, take, drop};
 ghost use Rattle.digits.specs.Digits.{number};
 ghost use Rattle.receiver.specs.State.{Sound, Roomy, Counts};
-ghost use Rattle.receiver.specs.Turns.{headerTurn, bodyTurn, grownBy, advanceOf};
+ghost use Rattle.receiver.specs.Turns.{headerTurn, bodyTurn, grownBy, begunAt, advanceOf};
 ghost use Rattle.receiver.specs.InWalk.{pasted, roomOf, Ends};
+use crate::Place;
+use crate::Stamp;
 use crate::judge;
 use crate::outset;
+use crate::stamps;
 use wire::Header;
 
 // Out of step; in a header, of which these bytes are read (none between two EPs); behind a header that got 14; in an
@@ -19,29 +22,34 @@ pub enum Phase {
     Body { header: Header, left: usize },
 }
 
-// What is kept at the room's start: a packet of this content, in the headers of whose EPs so many bits were repaired.
-// Inside an EP nothing kept means that it is passed over.
+// What is kept at the room's start: a packet of this content, in the headers of whose EPs so many bits were repaired, and
+// where it began. Inside an EP nothing kept means that it is passed over.
 pub enum Kept {
     Empty,
     Of {
         content: u8,
         repaired: u64,
+        began: Place,
         len: usize,
     },
 }
 
+// `began` is the place of the header or EP under way; where there is none, nobody reads it.
 pub struct Walk {
     pub at: usize,
     pub phase: Phase,
+    pub began: Place,
     pub kept: Kept,
 }
 
+// A notice is of the EP under way.
 pub enum Gain {
     Nothing,
     Notice(u8),
     Packet {
         content: u8,
         repaired: u64,
+        began: Place,
         len: usize,
     },
 }
@@ -97,11 +105,19 @@ fn complete(tp: &[u8], at: usize, have: usize, word: u64) -> u64
     gather(tp, at, 6 - have, have, word)
 }
 
-// Reading a header on.
-fn header(tp: &[u8], at: usize, have: usize, word: u64, kept: Kept, cap: usize) -> Turn
+// Reading a header on, which began there.
+fn header(
+    tp: &[u8],
+    at: usize,
+    have: usize,
+    word: u64,
+    began: Place,
+    kept: Kept,
+    cap: usize,
+) -> Turn
     requires { ⌜ (have ≤ 5) × (word < 256 ^ have) × (at ≤ length (now tp)) ⌝ }
     requires { ⌜ Roomy cap kept 0 ⌝ }
-    ensures { λ r. ⌜ r ≡ headerTurn (now (tp .entry)) at have word kept cap ⌝ }
+    ensures { λ r. ⌜ r ≡ headerTurn (now (tp .entry)) at have word began kept cap ⌝ }
 {
     let rest = tp.len() - at;
     let missing = 6 - have;
@@ -110,10 +126,10 @@ fn header(tp: &[u8], at: usize, have: usize, word: u64, kept: Kept, cap: usize) 
         let end = at + rest;
         let got = have + rest;
         let phase = Phase::Head { have: got, word: w };
-        return judge::stop(end, phase, kept, Gain::Nothing);
+        return judge::stop(end, phase, began, kept, Gain::Nothing);
     }
     let w = complete(tp, at, have, word);
-    judge::whole(at + missing, w, kept, cap)
+    judge::whole(at + missing, w, began, kept, cap)
 }
 
 // What is kept, with n bytes more.
@@ -126,19 +142,21 @@ fn grown(n: usize, kept: Kept) -> Kept
         Kept::Of {
             content,
             repaired,
+            began,
             len,
         } => Kept::Of {
             content,
             repaired,
+            began,
             len: len + n,
         },
     }
 }
 
 // Reading an EP's data on.
-fn body(tp: &[u8], at: usize, header: Header, left: usize, kept: Kept) -> Turn
+fn body(tp: &[u8], at: usize, header: Header, left: usize, began: Place, kept: Kept) -> Turn
     requires { ⌜ (at ≤ length (now tp)) × Counts kept left ⌝ }
-    ensures { λ r. ⌜ r ≡ bodyTurn (now (tp .entry)) at header left kept ⌝ }
+    ensures { λ r. ⌜ r ≡ bodyTurn (now (tp .entry)) at header left began kept ⌝ }
 {
     let rest = tp.len() - at;
     if rest < left {
@@ -149,25 +167,39 @@ fn body(tp: &[u8], at: usize, header: Header, left: usize, kept: Kept) -> Turn
             header,
             left: remains,
         };
-        return judge::stop(end, phase, k, Gain::Nothing);
+        return judge::stop(end, phase, began, k, Gain::Nothing);
     }
     let k = grown(left, kept);
-    judge::finish(at + left, header, k)
+    judge::finish(at + left, header, began, k)
 }
 
-// One turn among ordinary bytes: a header or what there is of it, or a run of data.
-pub fn advance(w: Walk, tp: &[u8], cap: usize) -> Turn
+// Where a header began, of which have bytes are read: here if none is.
+fn begun(stamp: Stamp, at: usize, have: usize, began: Place) -> Place
+    ensures { λ r. ⌜ r ≡ begunAt stamp at have began ⌝ }
+{
+    if have == 0 {
+        return stamps::of(stamp, at);
+    }
+    began
+}
+
+// One turn among ordinary bytes of a TP of this stamp: a header or what there is of it, or a run of data.
+pub fn advance(w: Walk, stamp: Stamp, tp: &[u8], cap: usize) -> Turn
     requires { ⌜ Sound cap (length (now tp)) w ⌝ }
-    ensures { λ r. ⌜ r ≡ advanceOf cap w (now (tp .entry)) ⌝ }
+    ensures { λ r. ⌜ r ≡ advanceOf cap stamp w (now (tp .entry)) ⌝ }
 {
     let at = w.at;
     let phase = w.phase;
+    let began = w.began;
     let kept = w.kept;
     match phase {
-        Phase::Lost => judge::stop(tp.len(), phase, kept, Gain::Nothing),
-        Phase::Head { have, word } => header(tp, at, have, word, kept, cap),
-        Phase::Judged(h) => judge::admit(at, h, kept, cap),
-        Phase::Body { header: h, left } => body(tp, at, h, left, kept),
+        Phase::Lost => judge::stop(tp.len(), phase, began, kept, Gain::Nothing),
+        Phase::Head { have, word } => {
+            let first = begun(stamp, at, have, began);
+            header(tp, at, have, word, first, kept, cap)
+        }
+        Phase::Judged(h) => judge::admit(at, h, began, kept, cap),
+        Phase::Body { header: h, left } => body(tp, at, h, left, began, kept),
     }
 }
 
@@ -182,6 +214,7 @@ fn put(tp: &[u8], at: usize, n: usize, kept: Kept, room: &mut [u8])
         Kept::Of {
             content: _,
             repaired: _,
+            began: _,
             len,
         } => {
             let end = at + n;
@@ -191,12 +224,13 @@ fn put(tp: &[u8], at: usize, n: usize, kept: Kept, room: &mut [u8])
 }
 
 // The same turn, the data that it reads put into the room if they are kept.
-fn advance_in(w: Walk, tp: &[u8], room: &mut [u8]) -> Turn
+fn advance_in(w: Walk, stamp: Stamp, tp: &[u8], room: &mut [u8]) -> Turn
     requires { ⌜ Sound (length (now room)) (length (now tp)) w ⌝ }
-    ensures { λ r. ⌜ (r ≡ advanceOf (length (now (room .entry))) w (now (tp .entry))) × (now (room .exit) ≡ roomOf w (now (tp .entry)) (now (room .entry))) ⌝ }
+    ensures { λ r. ⌜ (r ≡ advanceOf (length (now (room .entry))) stamp w (now (tp .entry))) × (now (room .exit) ≡ roomOf w (now (tp .entry)) (now (room .entry))) ⌝ }
 {
     let at = w.at;
     let phase = w.phase;
+    let began = w.began;
     let kept = w.kept;
     match phase {
         Phase::Lost => {}
@@ -205,20 +239,20 @@ fn advance_in(w: Walk, tp: &[u8], room: &mut [u8]) -> Turn
         Phase::Body { header: h, left } => {
             let n = outset::least(left, tp.len() - at);
             put(tp, at, n, kept, room);
-            return body(tp, at, h, left, kept);
+            return body(tp, at, h, left, began, kept);
         }
     }
-    advance(w, tp, room.len())
+    advance(w, stamp, tp, room.len())
 }
 
 // Reads on up to the next find, and not a byte further.
-pub fn onward(start: Walk, tp: &[u8], room: &mut [u8]) -> Answer
+pub fn onward(start: Walk, stamp: Stamp, tp: &[u8], room: &mut [u8]) -> Answer
     requires { ⌜ Sound (length (now room)) (length (now tp)) start ⌝ }
-    ensures { λ r. ⌜ Ends (length (now (room .entry))) start (now (tp .entry)) (now (room .entry)) r (now (room .exit)) ⌝ }
+    ensures { λ r. ⌜ Ends (length (now (room .entry))) stamp start (now (tp .entry)) (now (room .entry)) r (now (room .exit)) ⌝ }
 {
     let mut w = start;
     let out = loop {
-        match advance_in(w, tp, room) {
+        match advance_in(w, stamp, tp, room) {
             Turn::More(x) => w = x,
             Turn::Stop(a) => break a,
         }

@@ -1,83 +1,22 @@
--- `receiver::next` meets its contract: 1 and 6 are tested, and the TP is taken up where it stands: its find, or reading on.
+-- `receiver::next` meets its contract: the call by the receiver's own count.
 -- Assumes nothing.
-use Rattle.receiver.specs.Call.{stageCall}
 use borrow.Author.Needs.{needs}
-use Rattle.receiver.proofs.Calling.{refused-gives, same-gives}
-use Rattle.receiver.proofs.Answering.{call-gives, call-reads, call-refused, call-six, reads-of}
+use Rattle.receiver.specs.Call.{callOf}
 use Rattle.receiver.proofs.next.Statement.{statement}
 use Rattle.receiver.proofs.next.Tie as tie
 
-step-same-requires : tie.Need-step-same-requires
-step-same-requires c κs = search needs
+own-stamps-requires : tie.Need-own-stamps-requires
+own-stamps-requires c κs = search needs
 
-returns : tie.Need-returns
-returns c =
-    let s = c .before .before .before .before .before in
-    let a = s .args in
-    rw (c .step-same .ensures) (call-refused (a .r) (a .tp .now) (a .room .now) _ _ (c .before .if1 .taken) (refused-gives (a .r) (a .tp .now) (a .room .now) (s .pre)))
-
-step-same-requires-2 : tie.Need-step-same-requires-2
-step-same-requires-2 c κs = search needs
-
-returns-2 : tie.Need-returns-2
-returns-2 c =
-    let s = c .before .before .before .before .before .before .before in
-    let a = s .args in
-    rw (c .step-same2 .ensures) (call-six (a .r) (a .tp .now) (a .room .now) _ _ (c .before .before .before .if1 .left) (c .before .if2 .taken) (same-gives (a .r) (a .tp .now) (a .room .now) 6 (s .pre)))
-
-take-up-requires : tie.Need-take-up-requires
-take-up-requires c κs = search needs
-
-enum-known-step : tie.Need-enum-known-step
-enum-known-step c = search needs
-
-enum-known-w : tie.Need-enum-known-w
-enum-known-w c = search needs
-
-onward-requires : tie.Need-onward-requires
-onward-requires c κs =
-    let s = c .before .before .before .before .before .before .before .before .before .before .before in
-    let a = s .args in
-    let f = c .before .before .before .before .before .before .before .if1 .left in
-    let w = c .before .before .before .before .before .if2 .left in
-    let o = reads-of (stageCall (a .r .stage) (a .r) (a .tp .now)) (a .r) (a .tp .now) _ _ (c .before .before .before .before .take-up .ensures) (c .before .before .w .given .1) in
-    rw (f, w) (o .sound)
-
-tell-requires : tie.Need-tell-requires
-tell-requires c κs = search needs
-
-returns-3 : tie.Need-returns-3
-returns-3 c =
-    let s = c .before .before .before .before .before .before .before .before .before .before in
-    let a = s .args in
-    let f = c .before .before .before .before .before .before .if1 .left in
-    let w = c .before .before .before .before .if2 .left in
-    call-gives (a .r) (a .tp .now) (a .room .now) _ _ f w (c .before .before .before .take-up .ensures) (c .before .step .given .1)
+call-requires : tie.Need-call-requires
+call-requires c κs = search needs
 
 same-length : tie.Need-same-length
 same-length c = search needs
 
-returns-4 : tie.Need-returns-4
-returns-4 c =
-    let s = c .before .before .before .before .before .before .before .before .before .before .before .before .before .before .before in
-    let a = s .args in
-    let f = c .before .before .before .before .before .before .before .before .before .before .before .if1 .left in
-    let w = c .before .before .before .before .before .before .before .before .before .if2 .left in
-    rw (c .tell .ensures) (call-reads (a .r) (a .tp .now) _ (a .room .now) _ _ _ (s .pre .size) f w (c .before .before .before .before .before .before .before .before .take-up .ensures) (c .before .before .before .before .before .before .w .given .1) (c .before .before .before .onward .ensures) (search needs))
+returns : tie.Need-returns
+unfolding callOf
+returns c = rw (c .before .before .before .before .own-stamps .ensures) at (c .before .before .call .ensures)
 
 pub next-spec : {M : Type 1} → statement M
-next-spec =
-    tie.close
-    (tie.spec
-    step-same-requires
-    returns
-    step-same-requires-2
-    returns-2
-    take-up-requires
-    enum-known-step
-    enum-known-w
-    onward-requires
-    tell-requires
-    returns-3
-    same-length
-    returns-4)
+next-spec = tie.close (tie.spec own-stamps-requires call-requires same-length returns)

@@ -1,4 +1,4 @@
--- `receiver::judge::fits` meets its contract: a difference that does not wrap stands for the sum that 15 asks.
+-- `receiver::judge::fits` meets its contract: 15 if the room has no place.
 -- Assumes nothing.
 use borrow.Author.Needs.{needs}
 use borrow.Author.Tests.{le-leb, lt-leb}

@@ -25,12 +25,12 @@ opened-requires c κs = search needs
 returns : tie.Need-returns
 returns c =
     let a = c .before .before .before .before .args in
-    c .stop .ensures ∙ beyond-read (a .at) (a .kept) (a .cap) (headerIn (a .word)) (sym (c .before .before .before .read-header .ensures) ∙ c .before .enum-told .given .1)
+    c .stop .ensures ∙ beyond-read (a .at) (a .began) (a .kept) (a .cap) (headerIn (a .word)) (sym (c .before .before .before .read-header .ensures) ∙ c .before .enum-told .given .1)
 
 returns-2 : tie.Need-returns-2
 returns-2 c =
     let a = c .before .before .before .before .before .args in
-    c .opened .ensures ∙ whole-read (a .at) (a .kept) (a .cap) (c .before .before .header .given .0 .0) (headerIn (a .word)) (sym (c .before .before .before .before .read-header .ensures) ∙ c .before .before .header .given .1)
+    c .opened .ensures ∙ whole-read (a .at) (a .began) (a .kept) (a .cap) (c .before .before .header .given .0 .0) (headerIn (a .word)) (sym (c .before .before .before .before .read-header .ensures) ∙ c .before .before .header .given .1)
 
 pub whole-spec : {M : Type 1} → statement M
 whole-spec =

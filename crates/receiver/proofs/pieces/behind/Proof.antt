@@ -1,4 +1,4 @@
--- `receiver::pieces::behind` meets its contract by what it calls.
+-- `receiver::pieces::behind` meets its contract: an LLEP that is not broken.
 -- Assumes nothing.
 use borrow.Author.Needs.{needs}
 use Rattle.receiver.proofs.pieces.behind.Statement.{statement}
@@ -19,6 +19,12 @@ told-requires c κs = search needs
 repaired-requires : tie.Need-repaired-requires
 repaired-requires c κs = search needs
 
+own-requires : tie.Need-own-requires
+own-requires c κs = search needs
+
+of-requires : tie.Need-of-requires
+of-requires c κs = search needs
+
 piece-of-requires : tie.Need-piece-of-requires
 piece-of-requires c κs = search needs
 
@@ -26,7 +32,7 @@ went-requires : tie.Need-went-requires
 went-requires c κs = search needs
 
 returns : tie.Need-returns
-returns c = rw (c .went .ensures, c .before .piece-of .ensures, c .before .before .repaired .ensures, c .before .before .before .told .ensures, c .before .before .before .before .low-stage .ensures)
+returns c = rw (c .went .ensures, c .before .piece-of .ensures, c .before .before .of .ensures, c .before .before .before .own .ensures, c .before .before .before .before .repaired .ensures, c .before .before .before .before .before .told .ensures, c .before .before .before .before .before .before .low-stage .ensures)
 
 pub behind-spec : {M : Type 1} → statement M
 behind-spec =
@@ -37,6 +43,8 @@ behind-spec =
     low-stage-requires
     told-requires
     repaired-requires
+    own-requires
+    of-requires
     piece-of-requires
     went-requires
     returns)

@@ -1,26 +1,22 @@
--- `receiver::stages::due` meets its contract: 10 and 21 drop the rest; else the ordinary bytes are set about.
+-- `receiver::stages::due` meets its contract: behind the low-latency part.
 -- Assumes nothing.
-use mathlib.Core.Path.{sym, _∙_}
+use borrow.Author.Needs.{needs}
+use Rattle.receiver.proofs.Parting.{behind-in, due-behind, due-outside}
 use Prim.Native.Nat.{_≤_}
 use native.Mathlib.Omega.{arith}
 use lib.ListN.{length}
-use borrow.Author.Needs.{needs}
-use Rattle.receiver.proofs.Parting.{behind-in, due-behind, due-outside}
+use mathlib.Core.Path.{sym, _∙_}
 use Rattle.receiver.proofs.stages.due.Statement.{statement}
 use Rattle.receiver.proofs.stages.due.Tie as tie
 
 place-of-requires : tie.Need-place-of-requires
-place-of-requires c κs =
-    let s = c .before in
-    let a = s .args in
-    let l = s .pre .1 in
-    let p = l .walk .at in
-    let w = l .whole in
-    let d : a .at ≤ length (a .tp .now) = omega arith in
-    (s .pre .0, d)
+place-of-requires c κs = search needs
 
 enum-known-number : tie.Need-enum-known-number
 enum-known-number c = search needs
+
+start-requires : tie.Need-start-requires
+start-requires c κs = search needs
 
 drop-rest-requires : tie.Need-drop-rest-requires
 drop-rest-requires c κs = search needs
@@ -41,11 +37,11 @@ set-about-requires c κs =
 
 returns : tie.Need-returns
 returns c =
-    let s = c .before .before .before .before .before .before in
+    let s = c .before .before .before .before .before .before .before in
     let a = s .args in
     let l = s .pre .1 in
-    let e = sym (c .before .before .before .before .place-of .ensures) ∙ c .before .before .number .given .1 in
-    rw (c .drop-rest .ensures) (due-outside (a .r) (a .offset) (a .at) (a .tp .now) l _ e)
+    let e = sym (c .before .before .before .before .before .place-of .ensures) ∙ c .before .before .before .number .given .1 in
+    rw (c .drop-rest .ensures, c .before .start .ensures) (due-outside (a .r) (a .stamp) (a .offset) (a .at) (a .tp .now) l _ e)
 
 returns-2 : tie.Need-returns-2
 returns-2 c =
@@ -53,7 +49,7 @@ returns-2 c =
     let a = s .args in
     let l = s .pre .1 in
     let e = sym (c .before .before .before .before .place-of .ensures) ∙ c .before .before .n .given .1 in
-    due-behind (a .r) (a .offset) (a .at) (a .tp .now) l _ _ e (c .set-about .ensures)
+    due-behind (a .r) (a .stamp) (a .offset) (a .at) (a .tp .now) l _ _ e (c .set-about .ensures)
 
 pub due-spec : {M : Type 1} → statement M
 due-spec =
@@ -61,6 +57,7 @@ due-spec =
     (tie.spec
     place-of-requires
     enum-known-number
+    start-requires
     drop-rest-requires
     enum-known-n
     set-about-requires

@@ -30,18 +30,18 @@ least-requires c κs = search needs
 
 put-requires : tie.Need-put-requires
 put-requires c κs =
-    let s = c .before .before .before .before .before .before .before in
+    let s = c .before .before .before .before .before .before .before .before in
     let a = s .args in
     let p = s .pre .at in
-    let f = fine-by (length (a .room .now)) (a .w) (a .tp .now) _ (c .before .before .before .phase .given .1) (s .pre) in
+    let f = fine-by (length (a .room .now)) (a .stamp) (a .w) (a .tp .now) _ (c .before .before .before .phase .given .1) (s .pre) in
     let e = c .before .least .ensures in
     (omega arith, less-roomy (length (a .room .now)) _ _ (a .w .kept) f (omega arith))
 
 body-requires : tie.Need-body-requires
 body-requires c κs =
-    let s = c .before .before .before .before .before .before .before .before .before .before in
+    let s = c .before .before .before .before .before .before .before .before .before .before .before in
     let a = s .args in
-    let f = fine-by (length (a .room .now)) (a .w) (a .tp .now) _ (c .before .before .before .before .before .before .phase .given .1) (s .pre) in
+    let f = fine-by (length (a .room .now)) (a .stamp) (a .w) (a .tp .now) _ (c .before .before .before .before .before .before .phase .given .1) (s .pre) in
     (s .pre .at, counts (length (a .room .now)) _ (a .w .kept) (omega arith) f)
 
 same-length : tie.Need-same-length
@@ -49,16 +49,16 @@ same-length c = search needs
 
 returns : tie.Need-returns
 returns c =
-    let a = c .before .before .before .before .before .before .before .before .before .before .before .args in
+    let a = c .before .before .before .before .before .before .before .before .before .before .before .before .args in
     let e = c .before .before .before .before .before .before .before .phase .given .1 in
-    (rw (c .body .ensures) (advance-by (length (a .room .now)) (a .w) (a .tp .now) _ e), rw (c .before .before .before .put .ensures, c .before .before .before .before .before .least .ensures) (room-by (a .w) (a .tp .now) (a .room .now) _ e))
+    (rw (c .body .ensures) (advance-by (length (a .room .now)) (a .stamp) (a .w) (a .tp .now) _ e), rw (c .before .before .before .put .ensures, c .before .before .before .before .before .least .ensures) (room-by (a .w) (a .tp .now) (a .room .now) _ e))
 
 advance-requires : tie.Need-advance-requires
 advance-requires c κs = search needs
 
 returns-2 : tie.Need-returns-2
 returns-2 c =
-    let a = c .before .before .before .before .args in (
+    let a = c .before .before .before .before .before .args in (
       c .advance .ensures,
       ⊎-elim (λ l. room-by (a .w) (a .tp .now) (a .room .now) _ (l .1 .given .1))
           (⊎-elim (λ h. room-by (a .w) (a .tp .now) (a .room .now) _ (h .1 .given .1)) (λ j. room-by (a .w) (a .tp .now) (a .room .now) _ (j .1 .given .1)))

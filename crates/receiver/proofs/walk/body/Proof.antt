@@ -22,7 +22,7 @@ stop-requires : tie.Need-stop-requires
 stop-requires c κs = search needs
 
 returns : tie.Need-returns
-returns c = let a = c .before .before .before .before .args in rw (c .stop .ensures, c .before .grown .ensures) (body-cut (a .tp .now) (a .at) (a .left) (a .header) (a .kept) (c .before .before .if1 .taken))
+returns c = let a = c .before .before .before .before .args in rw (c .stop .ensures, c .before .grown .ensures) (body-cut (a .tp .now) (a .at) (a .left) (a .header) (a .began) (a .kept) (c .before .before .if1 .taken))
 
 grown-requires-2 : tie.Need-grown-requires-2
 grown-requires-2 c κs = search needs
@@ -34,7 +34,7 @@ finish-requires : tie.Need-finish-requires
 finish-requires c κs = search needs
 
 returns-2 : tie.Need-returns-2
-returns-2 c = let a = c .before .before .before .before .args in rw (c .finish .ensures, c .before .grown2 .ensures) (body-read (a .tp .now) (a .at) (a .left) (a .header) (a .kept) (c .before .before .if1 .left))
+returns-2 c = let a = c .before .before .before .before .args in rw (c .finish .ensures, c .before .grown2 .ensures) (body-read (a .tp .now) (a .at) (a .left) (a .header) (a .began) (a .kept) (c .before .before .if1 .left))
 
 pub body-spec : {M : Type 1} → statement M
 body-spec =

@@ -11,10 +11,10 @@ use Rattle.receiver.proofs.walk.onward.Statement.{statement}
 use Rattle.receiver.proofs.walk.onward.Tie as tie
 
 abbrev Inv-loop : tie.InvT-loop
-Inv-loop tp room₀ w₀ room w = (length room ≡ length room₀) × Sound (length room₀) (length tp) w × (pullOf (length room₀) w tp room ≡ pullOf (length room₀) w₀ tp room₀)
+Inv-loop stamp tp room₀ w₀ room w = (length room ≡ length room₀) × Sound (length room₀) (length tp) w × (pullOf (length room₀) stamp w tp room ≡ pullOf (length room₀) stamp w₀ tp room₀)
 
 abbrev μ-loop : tie.MeasureT-loop
-μ-loop tp room₀ w₀ room w = toil (length tp) w
+μ-loop stamp tp room₀ w₀ room w = toil (length tp) w
 
 loop-holds : tie.Need-loop-holds Inv-loop μ-loop
 loop-holds c = (refl, c .before .before .pre, refl)
@@ -30,7 +30,7 @@ loop-less c =
     let l = c .before .before .before .before .before .before .before .loop in
     let a = c .before .before .before .before .before .before .before .before .before .before .args in
     let d = c .before .before .before .before .before .advance-in in
-    let o = turn-on (a .tp .now) (a .room .now) (l .room) (d .last .1 .1 .0) (a .start) (l .w) _ (l .inv .0) (λ i. omega (arith, c .before .before .before .before .before .before .before .before .before .shared-slice-known .given i)) (l .inv .1) (d .ensures) _ (c .before .x .given .1) in
+    let o = turn-on (a .stamp) (a .tp .now) (a .room .now) (l .room) (d .last .1 .1 .1 .0) (a .start) (l .w) _ (l .inv .0) (λ i. omega (arith, c .before .before .before .before .before .before .before .before .before .shared-slice-known .given i)) (l .inv .1) (d .ensures) _ (c .before .x .given .1) in
     o .less
 
 loop-again : tie.Need-loop-again Inv-loop μ-loop
@@ -38,8 +38,8 @@ loop-again c =
     let l = c .before .before .before .before .before .before .before .loop in
     let a = c .before .before .before .before .before .before .before .before .before .before .args in
     let d = c .before .before .before .before .before .advance-in in
-    let o = turn-on (a .tp .now) (a .room .now) (l .room) (d .last .1 .1 .0) (a .start) (l .w) _ (l .inv .0) (λ i. omega (arith, c .before .before .before .before .before .before .before .before .before .shared-slice-known .given i)) (l .inv .1) (d .ensures) _ (c .before .x .given .1) in
-    let n : length (d .last .1 .1 .0) ≡ length (a .room .now) = search needs in
+    let o = turn-on (a .stamp) (a .tp .now) (a .room .now) (l .room) (d .last .1 .1 .1 .0) (a .start) (l .w) _ (l .inv .0) (λ i. omega (arith, c .before .before .before .before .before .before .before .before .before .shared-slice-known .given i)) (l .inv .1) (d .ensures) _ (c .before .x .given .1) in
+    let n : length (d .last .1 .1 .1 .0) ≡ length (a .room .now) = search needs in
     (n, o .sound, o .same ∙ l .inv .2)
 
 enum-known-a : tie.Need-enum-known-a Inv-loop μ-loop
@@ -53,7 +53,7 @@ returns c =
     let l = c .before .before .before .before .before .before .before .loop in
     let a = c .before .before .before .before .before .before .before .before .before .before .args in
     let d = c .before .before .before .before .before .advance-in in
-    let o = turn-ends (a .tp .now) (a .room .now) (l .room) (d .last .1 .1 .0) (a .start) (l .w) _ (l .inv .0) (λ i. omega (arith, c .before .before .before .before .before .before .before .before .before .shared-slice-known .given i)) (l .inv .1) (d .ensures) _ (c .before .a .given .1) in
+    let o = turn-ends (a .stamp) (a .tp .now) (a .room .now) (l .room) (d .last .1 .1 .1 .0) (a .start) (l .w) _ (l .inv .0) (λ i. omega (arith, c .before .before .before .before .before .before .before .before .before .shared-slice-known .given i)) (l .inv .1) (d .ensures) _ (c .before .a .given .1) in
     o (l .inv .2)
 
 pub onward-spec : {M : Type 1} → statement M

@@ -41,7 +41,7 @@ returns-2 : tie.Need-returns-2
 returns-2 c =
     let s = c .before .before .before .before .before .before .before .before .before .before in
     let g = rw (c .before .before .before .before .before .before .kept .given .1) at (s .pre .1) in
-    put-is (s .args .tp .now) (s .args .at) (s .args .n) _ _ _ (s .args .kept) (s .args .room .now) _ (c .before .before .before .before .before .before .kept .given .1) (s .pre .0) (omega arith) (c .before .before .copy-at .ensures)
+    put-is (s .args .tp .now) (s .args .at) (s .args .n) _ _ _ _ (s .args .kept) (s .args .room .now) _ (c .before .before .before .before .before .before .kept .given .1) (s .pre .0) (omega arith) (c .before .before .copy-at .ensures)
 
 pub put-spec : {M : Type 1} → statement M
 put-spec =
