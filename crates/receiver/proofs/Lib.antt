@@ -43,3 +43,5 @@ pub mod OnePacket
 pub mod HandedOut
 pub mod LowRead
 pub mod HandedLow
+pub mod Facts
+pub mod SinceLoss

@@ -169,16 +169,36 @@ opened-fresh size stream limit r o =
     by false false false false e = cc
 
 -- from an opening on
-pub from-opening : (size stream : ℕ) (m : List ℕ) (r : Receiver) {xs : List Input} {fs : List (Finding wire)} {r′ : Receiver} {m′ : List ℕ}
+pub opening-listed : (size stream : ℕ) (m : List ℕ) (r : Receiver) {xs : List Input} {fs : List (Finding wire)} {r′ : Receiver} {m′ : List ℕ}
     → OpenedAs size stream (length m) (O.Ready r) → Life r m xs fs r′ m′
-    → listingAll (record { size = size; stream = stream; room = length m }) 0 (standing lost free) xs .0 ≡ fs
-from-opening size stream m r {xs} {fs} {r′} {m′} o l =
+    → listingAll (record { size = size; stream = stream; room = length m }) 0 (standing lost free) xs ≡ (fs, standOf r′ m′)
+opening-listed size stream m r {xs} {fs} {r′} {m′} o l =
     let e = opened-fresh size stream (length m) r o in
     let s : settingOf r ≡ record { size = size; stream = stream; room = length m } = ap settingOf e in
     let t : standOf r m ≡ standing lost free = ap (λ (r : Receiver). standOf r m) e in
     let n : r .count ≡ 0 = ap (λ (r : Receiver). r .count) e in
-    let z = listening l (o .able) (ap (λ (r : Receiver). r .stage) e) (sym (ap (λ (r : Receiver). r .limit) e)) in
-    ap (λ (x : Setting). listingAll x 0 (standing lost free) xs .0) (sym s)
-    ∙ ap (λ (x : Stand). listingAll (settingOf r) 0 x xs .0) (sym t)
-    ∙ ap (λ (n : ℕ). listingAll (settingOf r) n (standOf r m) xs .0) (sym n)
-    ∙ ap (λ (x : Listing). x .0) z
+    ap (λ (x : Setting). listingAll x 0 (standing lost free) xs) (sym s)
+    ∙ ap (λ (x : Stand). listingAll (settingOf r) 0 x xs) (sym t)
+    ∙ ap (λ (n : ℕ). listingAll (settingOf r) n (standOf r m) xs) (sym n)
+    ∙ listening l (o .able) (ap (λ (r : Receiver). r .stage) e) (sym (ap (λ (r : Receiver). r .limit) e))
+
+pub from-opening : (size stream : ℕ) (m : List ℕ) (r : Receiver) {xs : List Input} {fs : List (Finding wire)} {r′ : Receiver} {m′ : List ℕ}
+    → OpenedAs size stream (length m) (O.Ready r) → Life r m xs fs r′ m′
+    → listingAll (record { size = size; stream = stream; room = length m }) 0 (standing lost free) xs .0 ≡ fs
+from-opening size stream m r o l = ap (λ (x : Listing). x .0) (opening-listed size stream m r o l)
+
+-- a life leaves a receiver that can be called, between two TPs
+rests : {r : Receiver} {m : List ℕ} {xs : List Input} {fs : List (Finding wire)} {r′ : Receiver} {m′ : List ℕ} → Life r m xs fs r′ m′
+    → Able r → r .stage ≡ S.Fresh → length m ≡ r .limit → Able r′ × (r′ .stage ≡ S.Fresh)
+rests over a e f = (a, e)
+rests {r} {m} (tp-on {r′ = r′} {m′ = m′} c l) a e f =
+    let v = tp-leaves c e f in
+    rests l (v .able) (v .fresh) (v .room ∙ f ∙ sym (ap (λ (s : Setting). s .room) (v .setting)))
+rests {r} {m} (gap-on {q = q} g l) a e f =
+    rests l (g .1) (ap (λ (q : Receiver). q .stage) (g .0)) (f ∙ sym (ap (λ (q : Receiver). q .limit) (g .0)))
+
+pub life-rests : (size stream : ℕ) (m : List ℕ) (r : Receiver) {xs : List Input} {fs : List (Finding wire)} {r′ : Receiver} {m′ : List ℕ}
+    → OpenedAs size stream (length m) (O.Ready r) → Life r m xs fs r′ m′ → Able r′ × (r′ .stage ≡ S.Fresh)
+life-rests size stream m r o l =
+    let e = opened-fresh size stream (length m) r o in
+    rests l (o .able) (ap (λ (r : Receiver). r .stage) e) (sym (ap (λ (r : Receiver). r .limit) e))

@@ -6,6 +6,7 @@ pub mod Forecast
 pub mod Join
 pub mod Low
 pub mod Tp
+pub mod Loss
 -- one call, by value: what `open`, `next`, `gap` and `found` promise
 pub mod Pull
 pub mod State
