@@ -12,7 +12,7 @@ use Rattle.golay.specs.declared.Decoded.the-variants.{Word}
 use Rattle.golay.proofs.Theorems.{is-reading}
 use Rattle.wire.proofs.Answers.{number-is}
 use Rattle.wire.specs.Reading.{fieldsOf, headerFrom, headerIn, headerOf, sortOf, tpNumberIn}
-use Rattle.receiver.specs.Forecast.{outset}
+use Rattle.receiver.specs.Forecast.{wayAt}
 use Rattle.receiver.specs.Join.{low, ordinary}
 use Rattle.receiver.specs.Kind.{kindOf, pieceOf}
 use Rattle.receiver.specs.Low.{llep, lowPart, sized, walk}
@@ -58,10 +58,10 @@ fill-header =
 
 -- with any room of at least a byte; here of one
 pub example-6 : read sixth ≡ low (intact 1 1 0) (0x11 ∷ 0x22 ∷ []) ∷ ordinary (intact 4 1 9) (0x33 ∷ []) ∷ []
-unfolding brings counts lowPart walk llep sized headerOf endOf endFlips kindOf sortOf pieceOf outset onesIn
+unfolding brings counts lowPart walk llep sized headerOf endOf endFlips kindOf sortOf pieceOf wayAt onesIn
 example-6 = simp (first-word, low-header, second-word, cut-header, fill-header)
 
 -- and its listing
 pub example-6-listed : listing sixth ≡ sixthListing
-unfolding brings counts lowPart walk llep sized headerOf endOf endFlips kindOf sortOf pieceOf outset onesIn lineWith decimal
+unfolding brings counts lowPart walk llep sized headerOf endOf endFlips kindOf sortOf pieceOf wayAt onesIn lineWith decimal
 example-6-listed = simp (first-word, low-header, second-word, cut-header, fill-header)
