@@ -9,6 +9,7 @@ pub use input::first;
 pub use input::go_on;
 pub use input::refused;
 pub use output::flush;
+pub use output::say;
 pub use output::stop;
 pub use stretch::bytes_of;
 

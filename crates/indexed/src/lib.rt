@@ -1,0 +1,1 @@
+// R-8: definitions and proofs only.

@@ -1,0 +1,29 @@
+-- The packet that a line of an index names (R-8): "the first of its sort begun at or after that place". Assumes nothing.
+use Prim.Native.Nat.{ℕ}
+use mathlib.Core.Bool.{Bool, true, false, cond, not, _&&_}
+use mathlib.Core.List.{List, []}
+use lib.Dec.{eqb, leb, ltb}
+use Rattle.reading.specs.Packets.{packetOf}
+use Rattle.receiver.specs.declared.Find.{Find}
+use Rattle.receiver.specs.declared.Find.the-variants.{Nothing, Refused, Notice, Low, Ordinary}
+use Rattle.receiver.specs.declared.Place.{Place}
+use Rattle.jumping.specs.declared.Wanted.{Wanted}
+
+-- "begun at or after that place", by record first
+abbrev pub begunThere : Wanted → Place → Bool
+begunThere w p = cond (eqb (p .stamp .number) (w .record)) (leb (w .place) (p .at)) (ltb (w .record) (p .stamp .number))
+
+-- "of its sort"
+abbrev pub isSort : Bool → Find → Bool
+isSort low Nothing = false
+isSort low Refused = false
+isSort low (Notice k) = false
+isSort low (Low c start n) = low
+isSort low (Ordinary c n) = not low
+
+abbrev pub isWanted : Wanted → Place → Find → Bool
+isWanted w p f = isSort (w .low) f && begunThere w p
+
+-- that packet's record, and nothing for any other find
+abbrev pub wantedOf : Wanted → Place → Find → List ℕ → List ℕ
+wantedOf w p f d = cond (isWanted w p f) (packetOf f d) []
