@@ -41,7 +41,7 @@ same-length : tie.Need-same-length Inv-loop μ-loop
 same-length c = search needs
 
 same-length-2 : tie.Need-same-length-2 Inv-loop μ-loop
-same-length-2 c = search needs
+same-length-2 c = omega (arith, c .before .before .before .before .before .before .out .given, c .before .before .before .before .before .before .before .before .before .before .before .before .before .loop .inv .1 .1 .1 .0)
 
 returns : tie.Need-returns Inv-loop μ-loop
 returns c =
