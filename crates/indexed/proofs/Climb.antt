@@ -23,9 +23,10 @@ use Rattle.receiver.specs.Join.{Finding}
 use Rattle.receiver.specs.Low.{wire, llep, given, Part, walked, walk, lowPart}
 use Rattle.receiver.specs.Tp.{Setting, Brings, refusing, dropping, behind, lowPartIf, worded, brings, Input, tpIn, gapTold, wayOf}
 use Rattle.receiver.specs.Call.{always}
+use Rattle.receiver.proofs.Facts.{wired}
 use Rattle.indexed.specs.Packets.{Packet, handed, All}
 use Rattle.indexed.proofs.Ways.{marks}
-use Rattle.indexed.proofs.Inputs.{wired, lowsOf}
+use Rattle.indexed.proofs.Inputs.{lowsOf}
 use Rattle.indexed.proofs.InOrder.{from}
 
 -- of this TP, each behind the one before, from place i on

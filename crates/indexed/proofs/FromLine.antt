@@ -8,7 +8,7 @@ use mathlib.Core.Bool.{Bool, true, false, cond}
 use mathlib.Core.Option.{some}
 use mathlib.Core.List.{List, [], _∷_, _++_, map}
 use native.Mathlib.Omega.{arith}
-use lib.Dec.{eqb, leb, ltb}
+use lib.Dec.{leb, ltb}
 use lib.ListN.{take, drop, take-append-drop}
 use borrow.Author.Tests.{ne-eqb, eq-eqb, le-leb, lt-leb, le-ltb}
 use Rattle.receiver.specs.declared.Stamp.{Stamp}
@@ -16,6 +16,7 @@ use Rattle.receiver.specs.declared.Place.{Place}
 use Rattle.receiver.specs.Low.{wire}
 use Rattle.receiver.specs.Tp as T
 use Rattle.receiver.specs.Tp.{Setting, Input}
+use Rattle.receiver.proofs.Facts.{wired}
 use Rattle.indexed.specs.Index.{startStamp, behind, behindAll, fresh, recordOf, standAt}
 use Rattle.indexed.specs.Packets.{Packet, handed, chosen, first, All, Rising}
 use Rattle.indexed.specs.Statements.{handedAll, handedOut, sameSort, startedAt, atOrAfter, FromLine}
@@ -26,7 +27,7 @@ use Rattle.indexed.proofs.Ways.{Stand, marks, gives}
 use Rattle.indexed.proofs.Facts.{weaker}
 use Rattle.indexed.proofs.Near.{Rests, rests-next, Aged, Near, near-next, near-gives}
 use Rattle.indexed.proofs.InOrder.{known, by-way-in}
-use Rattle.indexed.proofs.Inputs.{wired, lowsOf, bare}
+use Rattle.indexed.proofs.Inputs.{lowsOf, bare}
 use Rattle.indexed.proofs.Climb.{places, marks-climb, lows-climb}
 use Rattle.indexed.proofs.Records.{way, onward, onward-is, hands-are, hands-append, Stamped, Own, stamped-own, climbs-all}
 use Rattle.indexed.proofs.Grown.{rests-at, in-stand, stamped-first}

@@ -17,16 +17,17 @@ use Rattle.receiver.specs.Join.{Held, free, held}
 use Rattle.receiver.specs.Low.{wire}
 use Rattle.receiver.specs.Tp as T
 use Rattle.receiver.specs.Tp.{Setting, Input}
+use Rattle.receiver.proofs.Facts.{wired}
 use Rattle.indexing.specs.Lines.{Line}
 use Rattle.indexed.specs.Index.{startStamp, behind, behindAll, fresh, linesOf, standAt, underWay, unfinished, stampIn, sinceOf, indexOf, regrown, growOf}
 use Rattle.indexed.specs.Packets.{Packet, handed}
 use Rattle.indexed.specs.Statements.{handedAll, lineBy, Listed, Grown}
 use Rattle.indexed.proofs.Ways as W
 use Rattle.indexed.proofs.Ways.{Stand, run, gives}
-use Rattle.indexed.proofs.Facts.{InWays, InStand, in-run}
+use Rattle.indexed.proofs.Facts.{InWays, in-way, InStand, in-run}
 use Rattle.indexed.proofs.Near.{Rests, Aged, rests-run}
 use Rattle.indexed.proofs.Restart.{none-is, frameFrom, heldFrom, pending, in-pending, restart, Same, same-equal, same-fresh, same-gives, same-next, same-pending}
-use Rattle.indexed.proofs.Inputs.{wired, lowsOf, bare}
+use Rattle.indexed.proofs.Inputs.{lowsOf, bare}
 use Rattle.indexed.proofs.Climb.{marks-climb}
 use Rattle.indexed.proofs.Records.{lines-are, way, waysOf, onward, onward-is, hands-are, stand-run, behind-append, stand-append, hands-append, Stamped, stamped-map, Own, stamped-own, stamped-before, climbs-all}
 
@@ -82,7 +83,8 @@ module _ (s : Setting) where
 
   in-waysOf : (R : Stamp → Type 0) (xs : List Input) (p : Stamp) → Stamped R p xs → InWays wire (λ (q : Place). R (q .stamp)) (waysOf s p xs)
   in-waysOf R [] p a = tt
-  in-waysOf R (x ∷ xs) p a = (climbs-all R p 0 (W.marks wire (way s p x)) (a .0) (marks-climb s p x), in-waysOf R xs (behind p x) (a .1))
+  in-waysOf R (x ∷ xs) p a =
+      (in-way wire (λ (q : Place). R (q .stamp)) (way s p x) (climbs-all R p 0 (W.marks wire (way s p x)) (a .0) (marks-climb s p x)), in-waysOf R xs (behind p x) (a .1))
 
   -- a fact of each record's stamp is a fact of every place that is known behind them
   pub in-stand : (R : Stamp → Type 0) (xs : List Input) (p : Stamp) → Stamped R p xs → InStand wire (λ (q : Place). R (q .stamp)) wired (bare (standAt s p fresh xs))

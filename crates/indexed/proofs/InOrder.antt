@@ -14,10 +14,10 @@ use Rattle.receiver.specs.Frame.{Code, Frame, lost, idle, head, body, Event, lo
 use Rattle.receiver.specs.Forecast.{foretold, upon, resume, agree, judge, Way, stays, drops, gaps, goes, read, by-way}
 use Rattle.receiver.specs.Join as J
 use Rattle.receiver.specs.Join.{Finding, notice, ordinary, Held, free, held, Took, broken, goes-on, meets, grown, finish, listed, fits, further, admit, take-in, holding, finds}
+use Rattle.receiver.proofs.Facts.{Placed}
 use Rattle.indexed.specs.Packets.{Packet, handed}
 use Rattle.indexed.proofs.Sub.{Sub, end, skip, both, sub-refl, sub-none, sub-append, sub-trans, chain, front, none-after}
 use Rattle.indexed.proofs.Ways.{marks, marksOf, Stand, fresh, next, run, gives, givesAll}
-use Rattle.indexed.proofs.Facts.{Placed}
 use Rattle.indexed.proofs.Gives.{handed-append}
 
 module _ (C : Code) where

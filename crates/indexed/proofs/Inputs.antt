@@ -1,34 +1,16 @@
 -- WHAT AN INPUT BRINGS, read with the stamp of its record: its way, and the finds of its low-latency part, hang on the input alone.
 -- Assumes nothing.
-use mathlib.Core.Path.{_≡_, refl, sym, ap}
-use mathlib.Core.Option.{Option, none, some}
+use mathlib.Core.Path.{_≡_, refl}
 use mathlib.Core.List.{List, [], _++_}
-use Rattle.wire.specs.declared.Header.{Header}
-use Rattle.wire.specs.Reading.{headerOf}
 use Rattle.receiver.specs.declared.Stamp.{Stamp}
-use Rattle.receiver.specs.declared.Place.{Place}
 use Rattle.receiver.specs.Forecast.{by-way}
 use Rattle.receiver.specs.Join.{Finding, finds}
-use Rattle.receiver.specs.Low.{Ep, epAt, epIf, Tag, wire}
+use Rattle.receiver.specs.Low.{wire}
 use Rattle.receiver.specs.Tp as T
 use Rattle.receiver.specs.Tp.{Setting, brings, Input, tpIn, gapTold, wayOf}
 use Rattle.receiver.specs.Call.{always}
 use Rattle.indexed.specs.Index.{recordOf}
 use Rattle.indexed.proofs.Ways.{Stand, next}
-use Rattle.indexed.proofs.Facts.{Placed}
-
-pub placed-ep : (p : Place) (o : Option Header) (h : Ep) → epIf p o ≡ some h → h .at ≡ p
-placed-ep p none h e = cc
-placed-ep p (some x) h e = let z : epAt p x ≡ h = cc in sym (ap (λ (q : Ep). q .at) z)
-
--- a packet's place is that of its first EP
-abbrev pub wired : Placed wire
-wired = record {
-  from = λ (t : Tag). t .at;
-  place-is = λ p ks h e. placed-ep p (headerOf ks) h e;
-  begin-is = λ h. refl;
-  join-is = λ t h. refl;
-}
 
 abbrev pub lowsOf : Setting → Stamp → Input → List (Finding wire)
 lowsOf s p (tpIn tp) = brings s (always p) tp .lows

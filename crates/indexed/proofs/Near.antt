@@ -16,9 +16,10 @@ use borrow.Author.Tests.{eqb-true}
 use Rattle.receiver.specs.Frame.{Code, Frame, lost, idle, head, body, Event, lose, Out, within, whole, step, after, events}
 use Rattle.receiver.specs.Forecast.{foretold, upon, resume, agree, judge, Way, stays, drops, gaps, goes, read, by-way}
 use Rattle.receiver.specs.Join.{Finding, Held, free, held, holding, finds}
+use Rattle.receiver.proofs.Facts.{Placed, InFrame, InEvents, InHeld, in-holding}
 use Rattle.indexed.specs.Packets.{Packet, chosen}
 use Rattle.indexed.proofs.Ways.{Stand, fresh, joins, next, run, gives}
-use Rattle.indexed.proofs.Facts.{Placed, InFrame, InEvents, InHeld, InStand, in-foretold, in-holding}
+use Rattle.indexed.proofs.Facts.{InStand, in-foretold}
 use Rattle.indexed.proofs.Seam.{seam}
 use Rattle.indexed.proofs.Gives.{holding-append, finds-append}
 use Rattle.indexed.proofs.Shadow.{is-new, later, later-append, Shadow, same, older, old-finds, shadow, shadow-finds}

@@ -1,6 +1,6 @@
 -- THE OLDER: where a packet is held and an EP is under way, the packet began with that EP or before it. Its place is known before the EP's
 -- first byte is read, or is that byte's. Assumes nothing.
-use Prim.Native.Nat.{ℕ, zero, suc}
+use Prim.Native.Nat.{ℕ}
 use mathlib.Core.Path.{_≡_, refl, sym, ap, _∙_, subst}
 use mathlib.Core.Logic.{_⊎_, inl, inr}
 use mathlib.Core.Bool.{Bool, true, false}
@@ -8,22 +8,20 @@ use mathlib.Core.Option.{Option, none, some}
 use mathlib.Core.List.{List, [], _∷_, _++_, map, map-append, append-assoc}
 use lib.Dec.{eqb}
 use lib.ListN.{take, drop, take-append-drop}
-use Rattle.receiver.specs.declared.Stamp.{Stamp}
-use Rattle.receiver.specs.declared.Place.{Place}
 use Rattle.receiver.specs.Frame.{Code, Frame, lost, idle, head, body, Event, lose, step, after, events}
 use Rattle.receiver.specs.Forecast.{inside, phase, foretold, upon, resume, agree, judge, Way, stays, drops, gaps, goes, read, by-way}
 use Rattle.receiver.specs.Join.{Held, free, held, holding}
 use Rattle.receiver.specs.Low.{wire}
-use Rattle.receiver.specs.Tp.{Setting, Input}
-use Rattle.indexed.specs.Index.{startStamp, fresh, standAt, underWay}
+use Rattle.receiver.proofs.Facts.{Placed, wired, InFrame, InEvents, in-upon, in-inside, in-step, InHeld, in-holding}
+use Rattle.indexed.specs.Index.{startStamp, fresh, standAt}
 use Rattle.indexed.specs.Packets.{All, Rising}
 use Rattle.indexed.specs.Statements.{Older}
 use Rattle.indexed.proofs.Lists.{all-right, rising-right}
 use Rattle.indexed.proofs.Ways.{marks, marksOf, Stand, next, run}
-use Rattle.indexed.proofs.Facts.{Placed, InFrame, InEvents, InHeld, in-upon, in-inside, in-step, in-holding, weaker}
+use Rattle.indexed.proofs.Facts.{weaker}
 use Rattle.indexed.proofs.Gives.{holding-append}
 use Rattle.indexed.proofs.Restart.{none-is, frameFrom, in-frame}
-use Rattle.indexed.proofs.Inputs.{wired, bare}
+use Rattle.indexed.proofs.Inputs.{bare}
 use Rattle.indexed.proofs.Records.{waysOf, stand-run}
 use Rattle.indexed.proofs.Grown.{frame-pending}
 use Rattle.indexed.proofs.Rises.{BeforeAt, marks-rise}

@@ -10,10 +10,11 @@ use native.Mathlib.Omega.{arith}
 use Rattle.receiver.specs.Frame.{Code, Frame, lost, idle, head, body}
 use Rattle.receiver.specs.Forecast.{Way}
 use Rattle.receiver.specs.Join.{Held, free, held}
+use Rattle.receiver.proofs.Facts.{Placed, InFrame, InHeld}
 use Rattle.indexed.specs.Packets.{Packet, All}
 use Rattle.indexed.proofs.Lists.{all-chosen}
 use Rattle.indexed.proofs.Ways.{Stand, fresh, next, run, gives}
-use Rattle.indexed.proofs.Facts.{Placed, InFrame, InHeld, InStand}
+use Rattle.indexed.proofs.Facts.{InStand}
 use Rattle.indexed.proofs.Shadow.{Shadow, is-new, same}
 use Rattle.indexed.proofs.Near.{Rests, rests-next, Aged, Beside, Near, near-next, near-gives, near-run}
 

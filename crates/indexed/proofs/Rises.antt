@@ -12,6 +12,7 @@ use Rattle.receiver.specs.Forecast.{by-way}
 use Rattle.receiver.specs.Low.{wire}
 use Rattle.receiver.specs.Tp as T
 use Rattle.receiver.specs.Tp.{Setting, Input}
+use Rattle.receiver.proofs.Facts.{wired}
 use Rattle.indexing.specs.Lines.{Line}
 use Rattle.indexed.specs.Index.{startStamp, behind, fresh, recordOf}
 use Rattle.indexed.specs.Packets.{Packet, handed, chosen, All, Rising}
@@ -21,7 +22,7 @@ use Rattle.indexed.proofs.Sub.{rising-sub}
 use Rattle.indexed.proofs.Ways.{marks, marksOf, Stand, gives, givesAll}
 use Rattle.indexed.proofs.Gives.{all-plain}
 use Rattle.indexed.proofs.InOrder.{from, begun-in}
-use Rattle.indexed.proofs.Inputs.{wired, lowsOf, bare}
+use Rattle.indexed.proofs.Inputs.{lowsOf, bare}
 use Rattle.indexed.proofs.Climb.{Climbs, places, Low, marks-climb, lows-climb, lows-sort}
 use Rattle.indexed.proofs.Records.{way, waysOf, onward, onward-is, hands-are, Stamped, climbs-all}
 use Rattle.indexed.proofs.Grown.{listed}

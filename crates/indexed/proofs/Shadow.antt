@@ -12,9 +12,9 @@ use Rattle.receiver.specs.declared.kind.Kind.{Kind}
 use Rattle.receiver.specs.declared.kind.Kind.the-variants.{Fill, Reserved, Complete, First, Middle, Last}
 use Rattle.receiver.specs.Frame.{Code, Event, lose, gap, opened, entered, fed, closed}
 use Rattle.receiver.specs.Join.{Finding, notice, Held, free, held, Took, meets, finish, listed, fits, further, admit, take-in, holding, finds}
+use Rattle.receiver.proofs.Facts.{Placed, InEvents, InHeld, in-take}
 use Rattle.indexed.specs.Packets.{Packet, packetOf, handed, chosen}
 use Rattle.indexed.proofs.Lists.{chosen-append}
-use Rattle.indexed.proofs.Facts.{Placed, InEvents, InHeld, in-take}
 use Rattle.indexed.proofs.Gives.{handed-append, Gives, one-gives}
 
 -- new: which places are later ones
