@@ -94,19 +94,21 @@ fn jump(recording: i32, wanted: Wanted) {
     from(recording, setup, wanted, reached.record, reached.byte);
 }
 
-// Whether a word is this one.
-fn is_word(word: &[u8], text: &[u8]) -> bool {
-    if word.len() != text.len() {
+fn is_low(word: &[u8]) -> bool {
+    if word.len() != 3 {
         return false;
     }
-    let mut i = 0;
-    while i < word.len() {
-        if word[i] != text[i] {
-            return false;
-        }
-        i += 1;
+    digits::from_three(word[0], word[1], word[2]) == 0x6C6F77
+}
+
+fn is_ordinary(word: &[u8]) -> bool {
+    if word.len() != 8 {
+        return false;
     }
-    true
+    if digits::from_four(word[0], word[1], word[2], word[3]) != 0x6F726469 {
+        return false;
+    }
+    digits::from_four(word[4], word[5], word[6], word[7]) == 0x6E617279
 }
 
 fn number_of(i: usize) -> Word {
@@ -119,14 +121,14 @@ fn sorted(record: u64, place: u64) -> Asked {
     let mut word = io::buffer();
     let n = os::arg(4, &mut word);
     let sort = &word[..n];
-    if is_word(sort, b"low") {
+    if is_low(sort) {
         return Asked::Packet(Wanted {
             record,
             place,
             low: true,
         });
     }
-    if is_word(sort, b"ordinary") {
+    if is_ordinary(sort) {
         return Asked::Packet(Wanted {
             record,
             place,
@@ -136,7 +138,7 @@ fn sorted(record: u64, place: u64) -> Asked {
     Asked::Wrongly
 }
 
-fn asked() -> Asked {
+fn from_words() -> Asked {
     if os::arg_count() != 5 {
         return Asked::Wrongly;
     }
@@ -150,7 +152,7 @@ fn asked() -> Asked {
 }
 
 fn main() {
-    let Asked::Packet(wanted) = asked() else {
+    let Asked::Packet(wanted) = from_words() else {
         console::say(
             b"c7at",
             b"asks for a recording, a record, a place, and low or ordinary\n",
