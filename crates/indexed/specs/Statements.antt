@@ -1,4 +1,4 @@
--- R-8'S STATEMENTS: the index beside a recording, over `indexing.Index` and the receiver's own definitions. Assumes nothing.
+-- R-8'S STATEMENTS: the index beside a recording, over `indexed.Index` and the receiver's own definitions. Assumes nothing.
 use Prim.Native.Nat.{ℕ, _-_, _<_}
 use mathlib.Core.Path.{_≡_}
 use mathlib.Core.Logic.{_⊎_}
