@@ -89,4 +89,4 @@ def owner(crate, file, line):
 
 def unproved(said, name):
     """The functions that are not proved in their own right: not only since they call such a one."""
-    return {told[1] for told in re.finditer(rf'^\w+ {name}::(\S+): (?!proved$|not proved; it calls )', said, re.M)}
+    return {told[1] for told in re.finditer(rf'^\w+ {name}::(\S+): (?!proved$|.*; it calls )', said, re.M)}
