@@ -1,0 +1,1 @@
+-- What a call of the sender promises, through words. Assumes nothing.

@@ -1,0 +1,1 @@
+-- What the sender's calls give to a program in C, over the definitions of crate `sender`. Assumes nothing.
