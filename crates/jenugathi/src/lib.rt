@@ -1,6 +1,7 @@
 // What a program in C calls. A state is words that the caller owns; every call is total, whatever the words say.
 ghost use mathlib.Core.Path.{_≡_};
 
+pub mod composing;
 pub mod receiving;
 pub mod sending;
 
