@@ -2,7 +2,7 @@
 ghost use mathlib.Core.Path.{_≡_};
 ghost use mathlib.Core.Bool.{cond};
 ghost use mathlib.Core.List.{_++_};
-ghost use Prim.Native.Nat.{_+_, _-_, _≤_, _<_, min};
+ghost use Prim.Native.Nat.{_+_, _-_, _≤_, min};
 ghost use lib.Dec.{leb};
 ghost use lib.ListN.{length, take, getD, replicate};
 ghost use lib.Seq.{paste};
@@ -209,11 +209,13 @@ pub fn pop_into(buf: &[u8], q: Ring, dst: &mut [u8], at: usize, n: usize) -> Rin
     off_by(buf.len(), q, n)
 }
 
-// Byte i of what the ring holds.
+// Byte i of what the ring holds; 0 if it holds no more than i bytes.
 pub fn byte_at(buf: &[u8], q: Ring, i: usize) -> u8
     requires { ⌜ Kept (now buf) q ⌝ }
-    requires { ⌜ i < q .len ⌝ }
     ensures { λ r. ⌜ r ≡ getD (held (now (buf .entry)) q) i 0 ⌝ }
 {
+    if q.len <= i {
+        return 0;
+    }
     buf[place_of(buf.len(), q, i)]
 }
