@@ -1,18 +1,18 @@
 -- Laws of what a ring holds, and of bytes put behind it. Assumes nothing.
 use mathlib.Core.Path.{_≡_, refl, sym, ap, ap₂, _∙_}
-use mathlib.Core.Bool.{Bool, true, false, _&&_}
+use mathlib.Core.Bool.{Bool, true, false, cond, _&&_}
 use mathlib.Core.List.{List, [], _++_}
-use Prim.Native.Nat.{ℕ, _+_, _-_, _≤_}
+use Prim.Native.Nat.{ℕ, _+_, _-_, _≤_, _<_}
 use native.Mathlib.Nat.{add-assoc, add-zero}
 use native.Mathlib.Omega.{arith}
 use lib.Dec.{leb}
-use lib.ListN.{length}
+use lib.ListN.{length, length-append}
 use lib.Seq.{paste, paste-zero, take-length, take-paste, length-take-le, length-paste}
-use borrow.Author.Tests.{le-leb, leb-true}
+use borrow.Author.Tests.{le-leb, lt-leb, leb-true}
 use Rattle.queue.specs.declared.Ring.{Ring}
 use Rattle.queue.specs.Ring.{Left, around, held, Kept, kept, longer, written, room, pushed}
 use Rattle.queue.proofs.Copies.{paste-two}
-use Rattle.queue.proofs.Runs.{length-around, length-around-all, undo}
+use Rattle.queue.proofs.Runs.{length-around, length-around-all, undo, write-run}
 
 pub and-left : (a b : Bool) → a && b ≡ true → a ≡ true
 and-left true b e = refl
@@ -82,23 +82,6 @@ module _ (b s : List ℕ) (q : Ring) (w : Kept b q) (p : q .len + length s ≤ l
       let k : q .len ≤ length (around b (q .head)) = omega (arith, length-around b (q .head) (w .head), w .len) in
       rw (written-around, take-paste (around b (q .head)) (q .len) s (length s) k (omega arith), take-length)
 
--- what the code tests
-pub room-is : (b : List ℕ) (q : Ring) (n : ℕ) → room (length b) q n ≡ true → Kept b q × (n ≤ length b - q .len)
-unfolding room
-room-is b q n e = (
-  kept-is b q (and-left (kept (length b) q) (leb n (length b - q .len)) e),
-  leb-true n (length b - q .len) (and-right (kept (length b) q) (leb n (length b - q .len)) e),
-)
-
-module _ (b s : List ℕ) (q : Ring) (n : ℕ) (l : length s ≡ n) where
-  pub push-none : room (length b) q n ≡ false → record { ring = q; bytes = b } ≡ pushed b q s
-  unfolding pushed
-  push-none e = rw (l, e)
-
-  pub push-done : (b′ : List ℕ) → room (length b) q n ≡ true → b′ ≡ written b q s → record { ring = record { head = q .head; len = q .len + n }; bytes = b′ } ≡ pushed b q s
-  unfolding pushed longer
-  push-done b′ e f = rw (l, e, f)
-
 -- nothing
 pub put-none : (b : List ℕ) (q : Ring) → Kept b q → _≡_ {A = Left} (record { ring = q; bytes = b }) (record { ring = longer q 0; bytes = written b q [] })
 unfolding longer written
@@ -115,6 +98,32 @@ written-two b s t q w p =
     let wl = w .len in
     let l = length-around b (q .head) (w .head) in
     again b s t (written b q s) q (written-around b s q w (omega arith)) (length-written b s q w (omega arith)) (omega arith)
+
+-- six bytes and then t: by one write after the other, and in one stride before the buffer's end
+module _ (b h t : List ℕ) (q : Ring) (w : Kept b q) (l : length h ≡ 6) where
+  module _ (p : 6 + length t ≤ length b - q .len) (b₁ b₂ : List ℕ) where
+    pub write-both : b₁ ≡ written b q h → b₂ ≡ written b₁ (record { head = q .head; len = q .len + 6 }) t → b₂ ≡ written b q (h ++ t)
+    unfolding longer
+    write-both e₁ e₂ =
+        let wl = w .len in
+        e₂ ∙ ap (λ (x : List ℕ). written x (record { head = q .head; len = q .len + 6 }) t) e₁ ∙ ap (λ (n : ℕ). written (written b q h) (record { head = q .head; len = q .len + n }) t) (sym l) ∙ written-two b h t q w (omega arith)
+
+    pub write-stride : (at : ℕ) → at ≡ cond (leb (length b) (q .head + q .len)) (q .head + q .len - length b) (q .head + q .len)
+        → 6 + length t ≤ length b - at → b₁ ≡ paste b at h 6 → b₂ ≡ paste b₁ (at + 6) t (length t) → b₂ ≡ written b q (h ++ t)
+    write-stride at a r e₁ e₂ =
+        let n : length (h ++ t) ≡ 6 + length t = length-append h t ∙ ap (λ (x : ℕ). x + length t) l in
+        let e : b₂ ≡ paste (paste b at h (length h)) (at + length h) t (length t) = e₂ ∙ rw (e₁, l) refl in
+        write-run b (h ++ t) q w (omega arith) b₂ at a (omega arith) (e ∙ paste-two b h t at (omega arith))
+
+  -- what the code tests
+  pub push-none : length b - q .len < 6 + length t → record { ring = q; bytes = b } ≡ pushed b q (h ++ t)
+  unfolding pushed room
+  push-none p = rw (length-append h t, l, is-kept b q w, lt-leb (6 + length t) (length b - q .len) p)
+
+  pub push-done : 6 + length t ≤ length b - q .len → (b′ : List ℕ) → b′ ≡ written b q (h ++ t)
+      → record { ring = record { head = q .head; len = q .len + (6 + length t) }; bytes = b′ } ≡ pushed b q (h ++ t)
+  unfolding pushed room longer
+  push-done p b′ f = rw (length-append h t, l, is-kept b q w, le-leb (6 + length t) (length b - q .len) p, f)
 
 pub longer-two : (q : Ring) (n m : ℕ) → longer (longer q n) m ≡ longer q (n + m)
 unfolding longer

@@ -1,18 +1,18 @@
 -- Laws of six bytes read at once. Assumes nothing.
 use mathlib.Core.Path.{_≡_, refl, sym, ap, _∙_}
-use mathlib.Core.Bool.{Bool, true, false}
+use mathlib.Core.Bool.{cond}
+use mathlib.Core.Logic.{⊎-elim}
 use mathlib.Core.List.{List, [], _∷_}
-use Prim.Native.Nat.{ℕ, _+_, _-_, _≤_, _<_}
+use Prim.Native.Nat.{ℕ, _+_, _-_, _≤_}
 use native.Mathlib.Nat.{add-zero}
 use native.Mathlib.Omega.{arith}
 use lib.Dec.{leb}
-use lib.ListN.{length, take, drop, getD, replicate, length-drop}
+use lib.ListN.{length, take, drop, getD, length-drop}
 use lib.Seq.{take-take, take-append-le, drop-append-le, drop-drop, getD-drop}
-use borrow.Author.Tests.{le-leb, lt-leb, leb-true, leb-false}
 use Rattle.queue.specs.declared.Ring.{Ring}
-use Rattle.queue.specs.Ring.{around, held, Kept, kept, sixHeld, sixAt}
+use Rattle.queue.specs.Ring.{around, held, Kept}
 use Rattle.queue.proofs.Copies.{drop-take, drop-past}
-use Rattle.queue.proofs.Puts.{and-left, and-right, is-kept, kept-is}
+use Rattle.queue.proofs.Runs.{placed}
 
 -- a list's first six elements, by one
 pub six : (s : List ℕ) → 6 ≤ length s → getD s 0 0 ∷ getD s 1 0 ∷ getD s 2 0 ∷ getD s 3 0 ∷ getD s 4 0 ∷ getD s 5 0 ∷ [] ≡ take 6 s
@@ -51,40 +51,14 @@ module _ (b : List ℕ) (q : Ring) (i n m : ℕ) (e : q .len ≡ i + m) (p : n �
       let l = length-drop (q .head) b in
       sym (cut ∙ rw (drop-past (drop (q .head) b) (take (q .head) b) i j (omega arith), g, drop-take j k b, take-take n k (drop j b) h))
 
--- what the code tests
-module _ (cap : ℕ) (q : Ring) (i : ℕ) where
-  pub forged : kept cap q ≡ false → false ≡ sixHeld cap q i
-  unfolding sixHeld
-  forged e = rw e
-
-  pub too-few : kept cap q ≡ true → q .len < 6 → false ≡ sixHeld cap q i
-  unfolding sixHeld
-  too-few e h = rw (e, lt-leb (i + 6) (q .len) (omega arith))
-
-  pub six-test : kept cap q ≡ true → 6 ≤ q .len → leb i (q .len - 6) ≡ sixHeld cap q i
-  unfolding sixHeld
-  six-test e h = rw e (by (leb i (q .len - 6)) refl)
-    where
-      by : (t : Bool) → leb i (q .len - 6) ≡ t → t ≡ leb (i + 6) (q .len)
-      by true f = sym (le-leb (i + 6) (q .len) (omega (arith, leb-true i (q .len - 6) f)))
-      by false f = sym (lt-leb (i + 6) (q .len) (omega (arith, leb-false i (q .len - 6) f)))
-
-pub six-is : (b : List ℕ) (q : Ring) (i : ℕ) → sixHeld (length b) q i ≡ true → Kept b q × (i + 6 ≤ q .len)
-unfolding sixHeld
-six-is b q i e = (
-  kept-is b q (and-left (kept (length b) q) (leb (i + 6) (q .len)) e),
-  leb-true (i + 6) (q .len) (and-right (kept (length b) q) (leb (i + 6) (q .len)) e),
-)
-
-pub six-none : (b : List ℕ) (q : Ring) (i : ℕ) → sixHeld (length b) q i ≡ false → replicate 6 0 ≡ sixAt b q i
-unfolding sixAt
-six-none b q i e = rw e
-
-pub six-some : (b : List ℕ) (q : Ring) (i : ℕ) → sixHeld (length b) q i ≡ true → take 6 (drop i (held b q)) ≡ sixAt b q i
-unfolding sixAt
-six-some b q i e = rw e
-
--- the six bytes that are held
-pub six-held : (b : List ℕ) (q : Ring) (i : ℕ) → Kept b q → i + 6 ≤ q .len → sixAt b q i ≡ take 6 (drop i (held b q))
-unfolding sixHeld sixAt
-six-held b q i w p = rw (is-kept b q w, le-leb (i + 6) (q .len) p)
+-- the same by the place's index
+pub run-held : (b : List ℕ) (q : Ring) (i n at : ℕ) → Kept b q → i + n ≤ q .len
+    → at ≡ cond (leb (length b) (q .head + i)) (q .head + i - length b) (q .head + i) → at + n ≤ length b
+    → take n (drop at b) ≡ take n (drop i (held b q))
+run-held b q i n at w p a r =
+    let wh = w .head in
+    let wl = w .len in
+    ⊎-elim
+    (λ g. run-past b q i n (q .len - i) (omega arith) (omega arith) at (q .head - at) (omega arith) (omega arith) (omega arith))
+    (λ g. ap (λ (z : ℕ). take n (drop z b)) (g .0) ∙ run-before b q i n (q .len - i) (omega arith) (omega arith) (omega arith))
+    (placed (length b) (q .head) i wh at a)

@@ -4,7 +4,7 @@ use mathlib.Core.Bool.{Bool, cond, _&&_}
 use mathlib.Core.List.{List, _++_}
 use Prim.Native.Nat.{ℕ, _+_, _-_, _≤_, min}
 use lib.Dec.{leb}
-use lib.ListN.{length, take, drop, replicate}
+use lib.ListN.{length, take, drop}
 use lib.Seq.{paste}
 use Rattle.queue.specs.declared.Ring.{Ring}
 
@@ -69,11 +69,3 @@ popped b q d at n =
     cond (kept (length b) q && (leb n (q .len) && place (length d) at n))
     (record { ring = off (length b) q n; bytes = paste d at (held b q) n })
     (record { ring = q; bytes = d })
-
--- ---- six bytes of what is held, from place i on
-
-unfoldable pub sixHeld : ℕ → Ring → ℕ → Bool
-sixHeld cap q i = kept cap q && leb (i + 6) (q .len)
-
-unfoldable pub sixAt : List ℕ → Ring → ℕ → List ℕ
-sixAt b q i = cond (sixHeld (length b) q i) (take 6 (drop i (held b q))) (replicate 6 0)

@@ -1,11 +1,12 @@
 // A queue of bytes in a lent buffer, as a ring; and the one loop that copies.
 ghost use mathlib.Core.Path.{_≡_};
 ghost use mathlib.Core.Bool.{cond};
-ghost use Prim.Native.Nat.{_+_, _-_, _≤_, _<_, min};
+ghost use mathlib.Core.List.{_++_};
+ghost use Prim.Native.Nat.{_+_, _-_, _≤_, min};
 ghost use lib.Dec.{leb};
-ghost use lib.ListN.{length, take, drop, getD, replicate};
+ghost use lib.ListN.{length, take, getD, replicate};
 ghost use lib.Seq.{paste};
-ghost use Rattle.queue.specs.Ring.{copied, held, Kept, kept, room, written, pushed, off, place, popped, sixHeld, sixAt};
+ghost use Rattle.queue.specs.Ring.{copied, held, Kept, kept, written, pushed, off, place, popped};
 
 pub struct Ring {
     pub head: usize,
@@ -76,17 +77,8 @@ fn is_kept(cap: usize, q: Ring) -> bool
     q.len <= cap
 }
 
-fn has_room(cap: usize, q: Ring, n: usize) -> bool
-    ensures { λ r. ⌜ r ≡ room cap q n ⌝ }
-{
-    if !is_kept(cap, q) {
-        return false;
-    }
-    n <= cap - q.len
-}
-
 // The index of place i of what the ring holds; place len is the one behind it.
-fn place_of(cap: usize, q: Ring, i: usize) -> usize
+pub fn place_of(cap: usize, q: Ring, i: usize) -> usize
     requires { ⌜ q .head ≤ cap ⌝ }
     ensures { λ r. ⌜ r ≡ cond (leb cap (q .head + i)) (q .head + i - cap) (q .head + i) ⌝ }
 {
@@ -110,47 +102,46 @@ fn write(buf: &mut [u8], q: Ring, src: &[u8])
     copy_run(buf, 0, &src[first..], src.len() - first);
 }
 
-// Puts src behind what the ring holds, if it fits.
-pub fn push(buf: &mut [u8], q: Ring, src: &[u8]) -> Ring
-    ensures { λ r. ⌜ record { ring = r; bytes = now (buf .exit) } ≡ pushed (now (buf .entry)) q (now (src .entry)) ⌝ }
-{
-    if !has_room(buf.len(), q, src.len()) {
-        return q;
-    }
-    write(buf, q, src);
-    Ring {
-        head: q.head,
-        len: q.len + src.len(),
-    }
-}
-
-// Writes six bytes behind what the ring holds, in one run where they fit before the buffer's end.
-fn write_six(buf: &mut [u8], q: Ring, h: [u8; 6])
+// Writes six bytes and then a body behind what the ring holds, each by itself.
+fn write_apart(buf: &mut [u8], q: Ring, h: [u8; 6], body: &[u8])
     requires { ⌜ Kept (now buf) q ⌝ }
-    requires { ⌜ 6 ≤ length (now buf) - q .len ⌝ }
-    ensures { λ _. ⌜ now (buf .exit) ≡ written (now (buf .entry)) q h ⌝ }
+    requires { ⌜ 6 + length (now body) ≤ length (now buf) - q .len ⌝ }
+    ensures { λ _. ⌜ now (buf .exit) ≡ written (now (buf .entry)) q (h ++ now (body .entry)) ⌝ }
 {
-    let cap = buf.len();
-    let tail = place_of(cap, q, q.len);
-    if cap - tail < 6 {
-        write(buf, q, &h);
-        return;
-    }
-    copy_run(buf, tail, &h, 6);
-}
-
-// Puts six bytes behind what the ring holds, if they fit.
-pub fn push_six(buf: &mut [u8], q: Ring, h: [u8; 6]) -> Ring
-    ensures { λ r. ⌜ record { ring = r; bytes = now (buf .exit) } ≡ pushed (now (buf .entry)) q h ⌝ }
-{
-    if !has_room(buf.len(), q, 6) {
-        return q;
-    }
-    write_six(buf, q, h);
-    Ring {
+    write(buf, q, &h);
+    let t = Ring {
         head: q.head,
         len: q.len + 6,
+    };
+    write(buf, t, body);
+}
+
+// Puts six bytes and then a body behind what the ring holds, if both fit. Asks once where the ring wraps.
+pub fn push(buf: &mut [u8], q: Ring, h: [u8; 6], body: &[u8]) -> Ring
+    requires { ⌜ Kept (now buf) q ⌝ }
+    ensures { λ r. ⌜ record { ring = r; bytes = now (buf .exit) } ≡ pushed (now (buf .entry)) q (h ++ now (body .entry)) ⌝ }
+{
+    let cap = buf.len();
+    let free = cap - q.len;
+    if free < 6 {
+        return q;
     }
+    if free - 6 < body.len() {
+        return q;
+    }
+    let n = 6 + body.len();
+    let t = Ring {
+        head: q.head,
+        len: q.len + n,
+    };
+    let tail = place_of(cap, q, q.len);
+    if cap - tail < n {
+        write_apart(buf, q, h, body);
+        return t;
+    }
+    copy_run(buf, tail, &h, 6);
+    copy_run(buf, tail + 6, body, body.len());
+    t
 }
 
 // Reads the first bytes of what the ring holds, as many as dst has, in at most two runs.
@@ -218,72 +209,13 @@ pub fn pop_into(buf: &[u8], q: Ring, dst: &mut [u8], at: usize, n: usize) -> Rin
     off_by(buf.len(), q, n)
 }
 
-// Byte i of what the ring holds.
-fn byte_at(buf: &[u8], q: Ring, i: usize) -> u8
+// Byte i of what the ring holds; 0 if it holds no more than i bytes.
+pub fn byte_at(buf: &[u8], q: Ring, i: usize) -> u8
     requires { ⌜ Kept (now buf) q ⌝ }
-    requires { ⌜ i < q .len ⌝ }
     ensures { λ r. ⌜ r ≡ getD (held (now (buf .entry)) q) i 0 ⌝ }
 {
+    if q.len <= i {
+        return 0;
+    }
     buf[place_of(buf.len(), q, i)]
-}
-
-fn has_six(cap: usize, q: Ring, i: usize) -> bool
-    ensures { λ r. ⌜ r ≡ sixHeld cap q i ⌝ }
-{
-    if !is_kept(cap, q) {
-        return false;
-    }
-    if q.len < 6 {
-        return false;
-    }
-    i <= q.len - 6
-}
-
-// Six bytes of a buffer from index at on.
-fn six_of(buf: &[u8], at: usize) -> [u8; 6]
-    requires { ⌜ at + 6 ≤ length (now buf) ⌝ }
-    ensures { λ r. ⌜ r ≡ take 6 (drop at (now (buf .entry))) ⌝ }
-{
-    [
-        buf[at],
-        buf[at + 1],
-        buf[at + 2],
-        buf[at + 3],
-        buf[at + 4],
-        buf[at + 5],
-    ]
-}
-
-// Six bytes of what the ring holds, of which each is looked for by itself.
-fn six_apart(buf: &[u8], q: Ring, i: usize) -> [u8; 6]
-    requires { ⌜ Kept (now buf) q ⌝ }
-    requires { ⌜ i + 6 ≤ q .len ⌝ }
-    ensures { λ r. ⌜ r ≡ take 6 (drop i (held (now (buf .entry)) q)) ⌝ }
-{
-    [
-        byte_at(buf, q, i),
-        byte_at(buf, q, i + 1),
-        byte_at(buf, q, i + 2),
-        byte_at(buf, q, i + 3),
-        byte_at(buf, q, i + 4),
-        byte_at(buf, q, i + 5),
-    ]
-}
-
-// Six bytes of what the ring holds from place i on; zeros if there are none. Asks once where the ring wraps.
-pub fn six_at(buf: &[u8], q: Ring, i: usize) -> [u8; 6]
-    ensures { λ r. ⌜ r ≡ sixAt (now (buf .entry)) q i ⌝ }
-{
-    let cap = buf.len();
-    if !has_six(cap, q, i) {
-        return [0; 6];
-    }
-    let ahead = cap - q.head;
-    if ahead <= i {
-        return six_of(buf, i - ahead);
-    }
-    if ahead < i + 6 {
-        return six_apart(buf, q, i);
-    }
-    six_of(buf, q.head + i)
 }

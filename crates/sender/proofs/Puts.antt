@@ -39,19 +39,7 @@ module _ (b : List ℕ) (q : Ring) (w : Kept b q) where
     then f b″ t′ r v =
         v ∙ rw (bytes-is, ring-is, longer-two q (length e) (length f), written-two b e f q w r, ← length-append e f)
 
--- a header, and then the data
-pub put-both : (b : List ℕ) (q : Ring) (h d : List ℕ) → Kept b q → length h ≡ 6 → q .len + (6 + length d) ≤ length b → (b₁ b₂ : List ℕ) (t₁ t₂ : Ring)
-    → record { ring = t₁; bytes = b₁ } ≡ pushed b q h → record { ring = t₂; bytes = b₂ } ≡ pushed b₁ t₁ d
-    → record { ring = t₂; bytes = b₂ } ≡ Put b q (h ++ d)
-put-both b q h d w l p b₁ b₂ t₁ t₂ u v =
-    let u′ = is-put b q w h (record { ring = t₁; bytes = b₁ }) (omega arith) u in
-    let k = kept b q w h b₁ t₁ (omega arith) u′ in
-    let m = same b q w h b₁ t₁ (omega arith) u′ in
-    let n = longer-by b q w h b₁ t₁ (omega arith) u′ in
-    let v′ = is-put b₁ t₁ k d (record { ring = t₂; bytes = b₂ }) (omega arith) v in
-    then b q w h b₁ t₁ (omega arith) u′ d b₂ t₂ (omega arith) v′
-
--- the same, as an EP
+-- a header and data put, as an EP
 pub put-as : (b : List ℕ) (q : Ring) (c f n : ℕ) (h d : List ℕ) (x : Left) → h ≡ header c f n → length d ≡ n → x ≡ Put b q (h ++ d) → x ≡ Put b q (ep c f d)
 unfolding ep
 put-as b q c f n h d x e l u = u ∙ rw (e, ← l) refl

@@ -5,12 +5,12 @@ use native.Mathlib.Nat.{suc-sub-suc, sub-zero, sub-self, zero-sub, zero-min, min
 use native.Mathlib.Omega.{arith}
 use mathlib.Core.List.{List, [], _∷_, _++_, append-assoc, append-nil}
 use lib.ListN.{length, take, drop, replicate, length-append, length-take, length-replicate}
-use lib.Seq.{paste, take-paste, length-paste, take-all, take-nil, drop-nil, length-take-le, take-length}
+use lib.Seq.{paste, paste-zero, take-paste, length-paste, take-all, take-nil, drop-nil, length-take-le, take-length}
 use Rattle.queue.specs.declared.Ring.{Ring}
 use Rattle.queue.specs.Ring.{Left, copied, held, off, Kept, popped}
 use Rattle.queue.proofs.Copies.{copied-all}
 use Rattle.queue.proofs.Puts.{length-held}
-use Rattle.queue.proofs.Takes.{pop-fits}
+use Rattle.queue.proofs.Takes.{pop-fits, off-zero}
 use Rattle.wire.specs.Wire.{header, ep}
 use Rattle.wire.proofs.Laws.{ep-length, header-length}
 use Rattle.sender.specs.Drawing.{fill, lacking, stream, owedAfter}
@@ -65,6 +65,9 @@ pub short-least : (m : ℕ) → length (fill m) - m ≤ 5
 unfolding fill
 short-least zero = omega arith
 short-least (suc m) = omega (arith, fill-length (suc m) (omega arith))
+
+pub owed-few : (sh m : ℕ) → sh ≡ length (fill m) - m → sh ≤ 5
+owed-few sh m e = rw e (short-least m)
 
 pub fill-enough : (m : ℕ) → m ≤ length (fill m)
 unfolding fill
@@ -127,6 +130,24 @@ fill-written d d₁ d₂ h at k m p e ke he c₁ c₂ =
     let v : take (m - k) y ≡ y = take-all (m - k) y (omega arith) in
     sym w ∙ t₂ ∙ rw (t₁, v, fill-taken m k ke, ← he, sub-zero) (append-assoc (take at d) (take k h) y)
 
+-- less than a header
+pub fill-cut : (d d₁ h : List ℕ) (at m : ℕ) → at ≤ length d → m ≡ length d - at → m < 6 → h ≡ header 0 0 0
+    → d₁ ≡ copied d at (take (m - 0) h) → d₁ ≡ take at d ++ take m (fill m)
+fill-cut d d₁ h at m p e s he c₁ =
+    let z : m - m ≡ 0 = sub-self m in
+    fill-written d d₁ d₁ h at m m p e (omega arith) (rw z he) c₁ (rw (z, zero-min) (paste-zero d₁ (at + m) []))
+
+-- a header and more
+pub fill-whole : (d d₁ d₂ h : List ℕ) (at m : ℕ) → at ≤ length d → m ≡ length d - at → 6 ≤ m → h ≡ header 0 0 (m - 6)
+    → d₁ ≡ copied d at h → d₂ ≡ copied d₁ (at + 6) (replicate (m - 6) 0xAA) → d₂ ≡ take at d ++ take m (fill m)
+fill-whole d d₁ d₂ h at m p e s he c₁ c₂ =
+    let l : length h ≡ 6 = rw he (header-length 0 0 (m - 6)) in
+    let t : take 6 h ≡ h = take-all 6 h (omega arith) in
+    fill-written d d₁ d₂ h at 6 m p e (omega arith) he (rw t c₁) c₂
+
+pub short-none : (m : ℕ) → 6 ≤ m → 0 ≡ length (fill m) - m
+short-none m s = omega (arith, fill-length m (omega arith))
+
 -- ---- the stream
 
 same-gone : (r owed k l m : ℕ) → k ≡ min owed r → m ≡ l → min (r - k) l ≡ min (r - owed) m
@@ -158,7 +179,7 @@ stream-taken r owed k n m q ke ne me =
 pub owned : (b : List ℕ) (q t : Ring) (owed : ℕ) (d d₁ d₂ d₃ : List ℕ) (at k n sh : ℕ) → Kept b q → at ≤ length d
     → k ≡ min owed (length d - at) → d₁ ≡ copied d at (replicate k 0) → n ≡ min (length d - at - k) (q .len)
     → record { ring = t; bytes = d₂ } ≡ popped b q d₁ (at + k) n → d₃ ≡ take (at + k + n) d₂ ++ take (length d₂ - (at + k + n)) (fill (length d₂ - (at + k + n)))
-    → sh ≡ length (fill (length d - at - k - n)) - (length d - at - k - n)
+    → sh ≡ length (fill (length d₂ - (at + k + n))) - (length d₂ - (at + k + n))
     → Filled b q owed d at d₃ t n (owed - k + sh)
 unfolding owedAfter lacking
 owned b q t owed d d₁ d₂ d₃ at k n sh w p ke c₁ ne u e₃ se =
@@ -186,7 +207,7 @@ owned b q t owed d d₁ d₂ d₃ at k n sh w p ke c₁ ne u e₃ se =
       same = ap length e₃ ∙ whole d₂ (at + k + n) (rw l₂ (end-within (length d) at k n owed (q .len) p ke ne)) ∙ l₂;
       gone = ne ∙ f₁;
       ring = ap (λ (x : Left). x .ring) v;
-      left = rw (se, f₂, f₃) refl;
+      left = rw (se, m, f₂, f₃) refl;
     }
 
 -- the queue has enough: nothing is lacking, and nothing is owed afterwards
@@ -201,5 +222,24 @@ owned-queued b q t owed d d₁ d₂ at w p ho hq c₁ u l₂ =
     let n : ℕ = r - owed in
     let end : at + owed + n ≡ length d₂ = to-the-end (length d) at owed p ho ∙ sym l₂ in
     let none : length d₂ - (at + owed + n) ≡ 0 = rw end (sub-self (length d₂)) in
-    let f = owned b q t owed d d₁ d₂ d₂ at owed n 0 w p (sym (min-eq-left ho)) c₁ (sym (min-eq-left hq)) u (fill-nothing d₂ (at + owed + n) (length d₂ - (at + owed + n)) refl none) (short-zero (n - n) (sub-self n)) in
+    let f = owned b q t owed d d₁ d₂ d₂ at owed n 0 w p (sym (min-eq-left ho)) c₁ (sym (min-eq-left hq)) u (fill-nothing d₂ (at + owed + n) (length d₂ - (at + owed + n)) refl none) (short-zero (length d₂ - (at + owed + n)) none) in
     subst (λ (x : ℕ). Filled b q owed d at d₂ t n (x + 0)) (sub-self owed) f
+
+-- nothing is owed and nothing is queued
+pub owned-idle : (b : List ℕ) (q : Ring) (owed : ℕ) (d d′ : List ℕ) (at sh : ℕ) → Kept b q → owed ≡ 0 → q .len ≡ 0 → at ≤ length d
+    → d′ ≡ take at d ++ take (length d - at) (fill (length d - at)) → sh ≡ length (fill (length d - at)) - (length d - at) → Filled b q owed d at d′ q 0 sh
+unfolding owedAfter lacking
+owned-idle b q owed d d′ at sh w o z p e se =
+    let r : ℕ = length d - at in
+    let Q : List ℕ = held b q in
+    let lq : length Q ≡ 0 = length-held b q w ∙ z in
+    let f : r - 0 - length Q ≡ r = omega arith in
+    let i : Filled b q 0 d at d′ q 0 sh =
+    record {
+      bytes = e ∙ ap (λ (x : List ℕ). take at d ++ x) (sym (stream-taken r 0 0 0 r Q (omega arith) (omega arith) (omega arith)));
+      same = ap length e ∙ whole d at p;
+      gone = omega arith;
+      ring = sym (off-zero b q w);
+      left = se ∙ rw f (omega arith);
+    } in
+    subst (λ (x : ℕ). Filled b q x d at d′ q 0 sh) (sym o) i

@@ -1,12 +1,11 @@
 // What packets are allowed.
 ghost use mathlib.Core.Path.{_≡_};
-ghost use mathlib.Core.Bool.{not};
 ghost use Prim.Native.Nat.{_≤_};
 ghost use lib.Dec.{ltb};
 ghost use lib.ListN.{length};
-ghost use Rattle.sender.specs.declared.Refusal.the-variants.{Content, Long, Full};
+ghost use Rattle.sender.specs.declared.Refusal.the-variants.{Full};
 ghost use Rattle.sender.specs.Offering.{known, spBytes};
-ghost use Rattle.sender.specs.Steps.{checked, firstOf, judgedOf};
+ghost use Rattle.sender.specs.Steps.{checked, judgedOf};
 use crate::Refusal;
 use wire::Sort;
 
@@ -26,24 +25,6 @@ pub fn is_known(content: u8) -> bool
     }
 }
 
-fn of_content(content: u8) -> Check
-    ensures { λ r. ⌜ r ≡ checked (not (known content)) Content ⌝ }
-{
-    if !is_known(content) {
-        return Check::No(Refusal::Content);
-    }
-    Check::Fine
-}
-
-fn of_length(n: usize, most: usize) -> Check
-    ensures { λ r. ⌜ r ≡ checked (ltb most n) Long ⌝ }
-{
-    if most < n {
-        return Check::No(Refusal::Long);
-    }
-    Check::Fine
-}
-
 // An SP that is itself longer than the room is refused before its EPs' bytes are counted, so that the count stays small.
 fn of_room(content: u8, sp: &[u8], piece: usize, room: usize) -> Check
     requires { ⌜ (1 ≤ piece) × (room ≤ 1048576) ⌝ }
@@ -58,22 +39,16 @@ fn of_room(content: u8, sp: &[u8], piece: usize, room: usize) -> Check
     Check::Fine
 }
 
-fn first(a: Check, b: Check) -> Check
-    ensures { λ r. ⌜ r ≡ firstOf a b ⌝ }
-{
-    match a {
-        Check::Fine => b,
-        Check::No(k) => Check::No(k),
-    }
-}
-
 // The first refusal of 2, 3 and 4 that holds for an SP of at most so many bytes, where the queue has so much room.
 pub fn judged(content: u8, sp: &[u8], most: usize, piece: usize, room: usize) -> Check
     requires { ⌜ (1 ≤ piece) × (room ≤ 1048576) ⌝ }
     ensures { λ r. ⌜ r ≡ judgedOf content (now (sp .entry)) most piece room ⌝ }
 {
-    let two = of_content(content);
-    let three = of_length(sp.len(), most);
-    let four = of_room(content, sp, piece, room);
-    first(two, first(three, four))
+    if !is_known(content) {
+        return Check::No(Refusal::Content);
+    }
+    if most < sp.len() {
+        return Check::No(Refusal::Long);
+    }
+    of_room(content, sp, piece, room)
 }

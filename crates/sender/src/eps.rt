@@ -14,8 +14,7 @@ pub fn put_ep(buf: &mut [u8], q: Ring, h: [u8; 6], body: &[u8]) -> Ring
     requires { ⌜ q .len + (6 + length (now body)) ≤ length (now buf) ⌝ }
     ensures { λ r. ⌜ record { ring = r; bytes = now (buf .exit) } ≡ Put (now (buf .entry)) q (h ++ now (body .entry)) ⌝ }
 {
-    let t = queue::push_six(buf, q, h);
-    queue::push(buf, t, body)
+    queue::push(buf, q, h, body)
 }
 
 // The bytes that the EPs of an SP take.

@@ -23,29 +23,26 @@ pub fn rest_after(buf: &[u8], q: Ring, rest: usize, n: usize) -> usize
     at - n
 }
 
-// Writes fill into dst from place at to its end.
-fn fill_part(dst: &mut [u8], at: usize)
+// Writes fill into dst from place at to its end, and tells how many of its bytes are owed.
+fn fill_part(dst: &mut [u8], at: usize) -> usize
     requires { ⌜ (at ≤ length (now dst)) × (length (now dst) ≤ 2051) ⌝ }
     ensures { λ _. ⌜ now (dst .exit) ≡ take at (now (dst .entry)) ++ take (length (now (dst .entry)) - at) (fill (length (now (dst .entry)) - at)) ⌝ }
+    ensures { λ r. ⌜ r ≡ length (fill (length (now (dst .entry)) - at)) - (length (now (dst .entry)) - at) ⌝ }
 {
     let m = dst.len() - at;
     if m == 0 {
-        return;
-    }
-    let k = least(6, m);
-    let h = wire::header_of(0, 0, (m - k) as u16);
-    queue::copy_at(dst, at, &h[0..k]);
-    queue::fill_at(dst, at + k, m - k, 0xAA);
-}
-
-// How many bytes of fill for m are owed.
-fn short_of(m: usize) -> usize
-    ensures { λ r. ⌜ r ≡ length (fill m) - m ⌝ }
-{
-    if m == 0 {
         return 0;
     }
-    6 - least(6, m)
+    if m < 6 {
+        let h = wire::header_of(0, 0, 0);
+        queue::copy_at(dst, at, &h[0..m]);
+        return 6 - m;
+    }
+    // no TP has 4,096 bytes: the compiler need not encode the upper bits
+    let h = wire::header_of(0, 0, ((m - 6) % 4096) as u16);
+    queue::copy_at(dst, at, &h);
+    queue::fill_at(dst, at + 6, m - 6, 0xAA);
+    0
 }
 
 // The ring behind the part, how many queued bytes it took, and how many fill bytes are owed.
@@ -82,8 +79,7 @@ fn padded_part(buf: &[u8], q: Ring, owed: usize, tp: &mut [u8], at: usize) -> Ow
     queue::fill_at(tp, at, k, 0);
     let n = least(r - k, q.len);
     let t = queue::pop_into(buf, q, tp, at + k, n);
-    fill_part(tp, at + k + n);
-    let more = short_of(r - k - n);
+    let more = fill_part(tp, at + k + n);
     Own {
         ring: t,
         gone: n,
@@ -101,6 +97,16 @@ pub fn ordinary_part(buf: &[u8], q: Ring, owed: usize, tp: &mut [u8], at: usize)
     if owed <= r {
         if r - owed <= q.len {
             return queued_part(buf, q, owed, tp, at);
+        }
+    }
+    if owed == 0 {
+        if q.len == 0 {
+            let more = fill_part(tp, at);
+            return Own {
+                ring: q,
+                gone: 0,
+                owed: more,
+            };
         }
     }
     padded_part(buf, q, owed, tp, at)

@@ -4,8 +4,27 @@ ghost use Prim.Native.Nat.{_+_, _≤_, _<_};
 ghost use lib.ListN.{drop};
 ghost use Rattle.queue.specs.Ring.{held, Kept};
 ghost use Rattle.sender.specs.Drawing.{headAt, sizeIn, contentIn, lowIn, lowAt, overwritten, span};
+use golay::pair::encode_pair;
 use queue::Ring;
+use queue::byte_at;
 use queue::least;
+use queue::place_of;
+
+// The header at place i of what the ring holds, of which each byte is looked for by itself.
+fn head_across(buf: &[u8], q: Ring, i: usize) -> u64
+    requires { ⌜ Kept (now buf) q ⌝ }
+    requires { ⌜ i + 6 ≤ q .len ⌝ }
+    ensures { λ r. ⌜ r ≡ headAt (drop i (held (now (buf .entry)) q)) ⌝ }
+{
+    let a = digits::from_four(
+        byte_at(buf, q, i),
+        byte_at(buf, q, i + 1),
+        byte_at(buf, q, i + 2),
+        byte_at(buf, q, i + 3),
+    );
+    let b = digits::from_two(byte_at(buf, q, i + 4), byte_at(buf, q, i + 5));
+    a as u64 * 65536 + b as u64
+}
 
 // The header at place i of what the ring holds.
 fn head_at(buf: &[u8], q: Ring, i: usize) -> u64
@@ -13,8 +32,18 @@ fn head_at(buf: &[u8], q: Ring, i: usize) -> u64
     requires { ⌜ i + 6 ≤ q .len ⌝ }
     ensures { λ r. ⌜ r ≡ headAt (drop i (held (now (buf .entry)) q)) ⌝ }
 {
-    let b = queue::six_at(buf, q, i);
-    digits::from_six(b[0], b[1], b[2], b[3], b[4], b[5])
+    let at = place_of(buf.len(), q, i);
+    if buf.len() - at < 6 {
+        return head_across(buf, q, i);
+    }
+    digits::from_six(
+        buf[at],
+        buf[at + 1],
+        buf[at + 2],
+        buf[at + 3],
+        buf[at + 4],
+        buf[at + 5],
+    )
 }
 
 fn size_in(h: u64) -> usize
@@ -44,8 +73,11 @@ fn low_in(payload: usize, n: usize, h: u64) -> usize
     if !crate::checks::is_known(content) {
         return 0;
     }
-    let b = wire::header_of(content, 0, size as u16);
-    if digits::from_six(b[0], b[1], b[2], b[3], b[4], b[5]) != h {
+    let w = encode_pair(
+        content as u16 * 64 + (size / 4096) as u16,
+        (size % 4096) as u16,
+    );
+    if w.first as u64 * 16777216 + w.second as u64 != h {
         return 0;
     }
     6 + size
@@ -80,8 +112,11 @@ fn size_at(buf: &[u8], q: Ring, i: usize) -> usize
     requires { ⌜ i + 6 ≤ q .len ⌝ }
     ensures { λ r. ⌜ (r ≡ sizeIn (headAt (drop i (held (now (buf .entry)) q)))) × (r < 65536) ⌝ }
 {
-    let b = queue::six_at(buf, q, i);
-    (b[1] / 16) as usize * 4096 + b[3] as usize * 16 + (b[4] / 16) as usize
+    let at = place_of(buf.len(), q, i);
+    if buf.len() - at < 6 {
+        return size_in(head_across(buf, q, i));
+    }
+    (buf[at + 1] / 16) as usize * 4096 + buf[at + 3] as usize * 16 + (buf[at + 4] / 16) as usize
 }
 
 // The bytes of the EP at place at, at most what is held.

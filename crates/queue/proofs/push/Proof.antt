@@ -1,41 +1,108 @@
--- `queue::push` meets its contract: refused, or written. Assumes nothing.
-use mathlib.Core.Path.{refl, sym, _∙_}
+-- `queue::push` meets its contract: refused, or written, in one stride or apart. Assumes nothing.
+use mathlib.Core.Path.{_≡_}
 use native.Mathlib.Omega.{arith}
-use borrow.Author.Tests.{not-true, not-false}
-use Rattle.queue.proofs.Puts.{room-is, push-none, push-done}
+use Prim.Native.Nat.{_+_, _-_, _≤_}
+use lib.ListN.{length}
+use Rattle.queue.proofs.Runs.{place-in}
+use Rattle.queue.proofs.Puts.{push-none, push-done, write-stride}
 use borrow.Author.Needs.{needs}
 use Rattle.queue.proofs.push.Statement.{statement}
 use Rattle.queue.proofs.push.Tie as tie
 
-has-room-requires : tie.Need-has-room-requires
-has-room-requires c κs = search needs
+sub-free : tie.Need-sub-free
+sub-free c = search needs
 
 returns : tie.Need-returns
 returns c =
-    let a = c .before .before .before .before .args in
-    push-none (a .buf .now) (a .src .now) (a .q) _ refl (sym (c .before .has-room .ensures) ∙ not-true (c .before .has-room .result) (c .if1 .taken))
+    let s = c .before .before .before .before in
+    let a = s .args in
+    let l : length (a .t3) ≡ 6 = search needs in
+    let w = s .pre in
+    let k = w .len in
+    push-none (a .buf .now) (a .t3) (a .body .now) (a .q) w l (omega (arith, c .if1 .taken))
 
-write-requires : tie.Need-write-requires
-write-requires c κs =
-    let a = c .before .before .before .before .before .args in
-    room-is (a .buf .now) (a .q) _ (sym (c .before .before .has-room .ensures) ∙ not-false (c .before .before .has-room .result) (c .before .if1 .left))
+returns-2 : tie.Need-returns-2
+returns-2 c =
+    let s = c .before .before .before .before .before in
+    let a = s .args in
+    let l : length (a .t3) ≡ 6 = search needs in
+    let w = s .pre in
+    let k = w .len in
+    push-none (a .buf .now) (a .t3) (a .body .now) (a .q) w l (omega (arith, c .before .if1 .left, c .if2 .taken))
 
-add-t6 : tie.Need-add-t6
-add-t6 c =
-    let a = c .before .before .before .before .before .before .before .before .before .args in
-    let r = room-is (a .buf .now) (a .q) _ (sym (c .before .before .before .before .before .before .has-room .ensures) ∙ not-false (c .before .before .before .before .before .before .has-room .result) (c .before .before .before .before .before .if1 .left)) in
-    let k = r .0 .len in
-    let n = r .1 in
+add-n : tie.Need-add-n
+add-n c = search needs
+
+add-copy-run : tie.Need-add-copy-run
+add-copy-run c = search needs
+
+place-of-requires : tie.Need-place-of-requires
+place-of-requires c κs = search needs
+
+sub-if3 : tie.Need-sub-if3
+sub-if3 c =
+    let s = c .before .before .before .before .before .before .before in
+    let k = s .pre .len in
+    let r = place-in (length (s .args .buf .now)) (s .args .q .head) (s .args .q .len) (s .pre .head) _ (c .place-of .ensures) (omega (arith, c .before .before .before .if1 .left)) in
     omega arith
+
+write-apart-requires : tie.Need-write-apart-requires
+write-apart-requires c κs = search needs
 
 same-length : tie.Need-same-length
 same-length c = search needs
 
-returns-2 : tie.Need-returns-2
-returns-2 c =
-    let a = c .before .before .before .before .before .before .before .before .before .args in
-    push-done (a .buf .now) (a .src .now) (a .q) _ refl _ (sym (c .before .before .before .before .before .before .has-room .ensures) ∙ not-false (c .before .before .before .before .before .before .has-room .result) (c .before .before .before .before .before .if1 .left)) (c .before .before .before .write .ensures)
+returns-3 : tie.Need-returns-3
+returns-3 c =
+    let s = c .before .before .before .before .before .before .before .before .before .before .before .before in
+    let a = s .args in
+    let l : length (a .t3) ≡ 6 = search needs in
+    let w = s .pre in
+    let k = w .len in
+    push-done (a .buf .now) (a .t3) (a .body .now) (a .q) w l (omega (arith, c .before .before .before .before .before .before .before .before .if1 .left, c .before .before .before .before .before .before .before .if2 .left)) _ (c .before .before .write-apart .ensures)
+
+slice-aggregate-copy-run : tie.Need-slice-aggregate-copy-run
+slice-aggregate-copy-run c = search needs
+
+copy-run-requires : tie.Need-copy-run-requires
+copy-run-requires c κs = search needs
+
+add-copy-run-2 : tie.Need-add-copy-run-2
+add-copy-run-2 c = search needs
+
+copy-run-requires-2 : tie.Need-copy-run-requires-2
+copy-run-requires-2 c κs = search needs
+
+same-length-2 : tie.Need-same-length-2
+same-length-2 c = search needs
+
+returns-4 : tie.Need-returns-4
+returns-4 c =
+    let s = c .before .before .before .before .before .before .before .before .before .before .before .before .before .before .before .before .before in
+    let a = s .args in
+    let l : length (a .t3) ≡ 6 = search needs in
+    let w = s .pre in
+    let k = w .len in
+    let p : 6 + length (a .body .now) ≤ length (a .buf .now) - a .q .len = omega (arith, c .before .before .before .before .before .before .before .before .before .before .before .before .before .if1 .left, c .before .before .before .before .before .before .before .before .before .before .before .before .if2 .left) in
+    push-done (a .buf .now) (a .t3) (a .body .now) (a .q) w l p _ (write-stride (a .buf .now) (a .t3) (a .body .now) (a .q) w l p _ _ (c .before .before .before .before .before .before .before .before .before .before .place-of .result) (c .before .before .before .before .before .before .before .before .before .before .place-of .ensures) (c .before .before .before .before .before .before .before .before .before .if3 .left) (c .before .before .before .before .before .before .copy-run .ensures) (c .before .before .copy-run2 .ensures))
 
 pub push-spec : {M : Type 1} → statement M
 push-spec =
-    tie.close (tie.spec has-room-requires returns write-requires add-t6 same-length returns-2)
+    tie.close
+    (tie.spec
+    sub-free
+    returns
+    returns-2
+    add-n
+    add-copy-run
+    place-of-requires
+    sub-if3
+    write-apart-requires
+    same-length
+    returns-3
+    slice-aggregate-copy-run
+    copy-run-requires
+    add-copy-run-2
+    copy-run-requires-2
+    same-length-2
+    returns-4)

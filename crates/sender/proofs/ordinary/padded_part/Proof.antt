@@ -1,8 +1,6 @@
 -- `ordinary::padded_part` meets its contract, by the law `owned`. Assumes nothing.
-use Prim.Native.Nat.{_-_}
 use native.Mathlib.Omega.{arith}
-use lib.ListN.{length}
-use Rattle.sender.proofs.Stream.{owned, short-least}
+use Rattle.sender.proofs.Stream.{owned, owed-few}
 use borrow.Author.Needs.{needs}
 use Rattle.sender.proofs.ordinary.padded_part.Statement.{statement}
 use Rattle.sender.proofs.ordinary.padded_part.Tie as tie
@@ -37,24 +35,13 @@ add-fill-part-2 c = search needs
 fill-part-requires : tie.Need-fill-part-requires
 fill-part-requires c κs = search needs
 
-sub-short-of : tie.Need-sub-short-of
-sub-short-of c = search needs
-
-sub-short-of-2 : tie.Need-sub-short-of-2
-sub-short-of-2 c = search needs
-
-short-of-requires : tie.Need-short-of-requires
-short-of-requires c κs = search needs
-
 sub-t11 : tie.Need-sub-t11
 sub-t11 c = search needs
 
 add-t19 : tie.Need-add-t19
 add-t19 c =
-    let a = c .before .before .before .before .before .before .before .before .before .before .before .before .before .before .before .before .before .args in
-    let m = short-least (length (a .tp .now) - a .at - c .before .before .before .before .before .before .before .before .before .before .before .before .before .before .least .result - c .before .before .before .before .before .before .before .before .before .least2 .result) in
-    let e = c .short-of .ensures in
-    let o = c .before .before .before .before .before .before .before .before .before .before .before .before .before .before .before .before .before .pre .1 .2 in
+    let m = owed-few _ _ (c .before .before .fill-part .ensures .1) in
+    let o = c .before .before .before .before .before .before .before .before .before .before .before .before .before .before .before .before .pre .1 .2 in
     omega arith
 
 same-length : tie.Need-same-length
@@ -62,9 +49,9 @@ same-length c = search needs
 
 returns : tie.Need-returns
 returns c =
-    let s = c .before .before .before .before .before .before .before .before .before .before .before .before .before .before .before .before .before in
+    let s = c .before .before .before .before .before .before .before .before .before .before .before .before .before .before .before .before in
     let a = s .args in
-    owned (a .buf .now) (a .q) _ (a .owed) (a .tp .now) _ _ _ (a .at) _ _ _ (s .pre .0) (s .pre .1 .0) (c .before .before .before .before .before .before .before .before .before .before .before .before .before .before .least .ensures) (c .before .before .before .before .before .before .before .before .before .before .before .before .fill-at .ensures) (c .before .before .before .before .before .before .before .before .before .least2 .ensures) (c .before .before .before .before .before .before .before .pop-into .ensures) (c .before .before .before .fill-part .ensures) (c .short-of .ensures)
+    owned (a .buf .now) (a .q) _ (a .owed) (a .tp .now) _ _ _ (a .at) _ _ _ (s .pre .0) (s .pre .1 .0) (c .before .before .before .before .before .before .before .before .before .before .before .before .before .least .ensures) (c .before .before .before .before .before .before .before .before .before .before .before .fill-at .ensures) (c .before .before .before .before .before .before .before .before .least2 .ensures) (c .before .before .before .before .before .before .pop-into .ensures) (c .before .before .fill-part .ensures .0) (c .before .before .fill-part .ensures .1)
 
 pub padded-part-spec : {M : Type 1} → statement M
 padded-part-spec =
@@ -80,9 +67,6 @@ padded-part-spec =
     add-fill-part
     add-fill-part-2
     fill-part-requires
-    sub-short-of
-    sub-short-of-2
-    short-of-requires
     sub-t11
     add-t19
     same-length

@@ -1,57 +1,90 @@
--- `reading::head_at` meets its contract: six bytes, and their number. Assumes nothing.
-use mathlib.Core.Path.{_≡_, ap, _∙_}
+-- `reading::head_at` meets its contract: in one run, or each byte by itself. Assumes nothing.
+use mathlib.Core.Path.{_∙_}
+use native.Mathlib.Omega.{arith}
 use lib.ListN.{length}
-use Rattle.digits.specs.Digits.{number}
-use Rattle.queue.proofs.Sixes.{six-held}
-use Rattle.sender.specs.Drawing.{headAt}
-use Rattle.sender.proofs.Heads.{number-six}
+use Rattle.queue.proofs.Runs.{place-in}
+use Rattle.sender.proofs.Heads.{head-run}
 use borrow.Author.Needs.{needs}
 use Rattle.sender.proofs.reading.head_at.Statement.{statement}
 use Rattle.sender.proofs.reading.head_at.Tie as tie
 
-six-at-requires : tie.Need-six-at-requires
-six-at-requires c κs = search needs
+place-of-requires : tie.Need-place-of-requires
+place-of-requires c κs = search needs
 
-array-read-from-six : tie.Need-array-read-from-six
-array-read-from-six c = search needs
+sub-if1 : tie.Need-sub-if1
+sub-if1 c =
+    let s = c .before .before in
+    let l = s .pre .0 .len in
+    let p = s .pre .1 in
+    let r = place-in (length (s .args .buf .now)) (s .args .q .head) (s .args .i) (s .pre .0 .head) _ (c .place-of .ensures) (omega arith) in
+    omega arith
 
-array-read-from-six-2 : tie.Need-array-read-from-six-2
-array-read-from-six-2 c = search needs
+head-across-requires : tie.Need-head-across-requires
+head-across-requires c κs = search needs
 
-array-read-from-six-3 : tie.Need-array-read-from-six-3
-array-read-from-six-3 c = search needs
+returns : tie.Need-returns
+returns c = search needs
 
-array-read-from-six-4 : tie.Need-array-read-from-six-4
-array-read-from-six-4 c = search needs
+shared-slice-read-from-six : tie.Need-shared-slice-read-from-six
+shared-slice-read-from-six c = search needs
 
-array-read-from-six-5 : tie.Need-array-read-from-six-5
-array-read-from-six-5 c = search needs
+add-from-six : tie.Need-add-from-six
+add-from-six c = search needs
 
-array-read-from-six-6 : tie.Need-array-read-from-six-6
-array-read-from-six-6 c = search needs
+shared-slice-read-from-six-2 : tie.Need-shared-slice-read-from-six-2
+shared-slice-read-from-six-2 c = search needs
+
+add-from-six-2 : tie.Need-add-from-six-2
+add-from-six-2 c = search needs
+
+shared-slice-read-from-six-3 : tie.Need-shared-slice-read-from-six-3
+shared-slice-read-from-six-3 c = search needs
+
+add-from-six-3 : tie.Need-add-from-six-3
+add-from-six-3 c = search needs
+
+shared-slice-read-from-six-4 : tie.Need-shared-slice-read-from-six-4
+shared-slice-read-from-six-4 c = search needs
+
+add-from-six-4 : tie.Need-add-from-six-4
+add-from-six-4 c = search needs
+
+shared-slice-read-from-six-5 : tie.Need-shared-slice-read-from-six-5
+shared-slice-read-from-six-5 c = search needs
+
+add-from-six-5 : tie.Need-add-from-six-5
+add-from-six-5 c = search needs
+
+shared-slice-read-from-six-6 : tie.Need-shared-slice-read-from-six-6
+shared-slice-read-from-six-6 c = search needs
 
 from-six-requires : tie.Need-from-six-requires
 from-six-requires c κs = search needs
 
-returns : tie.Need-returns
-unfolding headAt
-returns c =
-    let s = c .before .before .before in
+returns-2 : tie.Need-returns-2
+returns-2 c =
+    let s = c .before .before .before .before .before .before .before .before .before .before in
     let a = s .args in
-    let b = c .before .six-at .result in
-    let l : length b ≡ 6 = search needs in
-    c .from-six .ensures ∙ number-six b l ∙ ap (number 0) (c .before .six-at .ensures ∙ six-held (a .buf .now) (a .q) (a .i) (s .pre .0) (s .pre .1))
+    c .from-six .ensures ∙ head-run (a .buf .now) (a .q) (a .i) (c .before .before .before .before .before .before .before .before .place-of .result) (s .pre .0) (s .pre .1) (c .before .before .before .before .before .before .before .before .place-of .ensures) (omega (arith, c .before .before .before .before .before .before .before .if1 .left))
 
 pub head-at-spec : {M : Type 1} → statement M
 head-at-spec =
     tie.close
     (tie.spec
-    six-at-requires
-    array-read-from-six
-    array-read-from-six-2
-    array-read-from-six-3
-    array-read-from-six-4
-    array-read-from-six-5
-    array-read-from-six-6
+    place-of-requires
+    sub-if1
+    head-across-requires
+    returns
+    shared-slice-read-from-six
+    add-from-six
+    shared-slice-read-from-six-2
+    add-from-six-2
+    shared-slice-read-from-six-3
+    add-from-six-3
+    shared-slice-read-from-six-4
+    add-from-six-4
+    shared-slice-read-from-six-5
+    add-from-six-5
+    shared-slice-read-from-six-6
     from-six-requires
-    returns)
+    returns-2)

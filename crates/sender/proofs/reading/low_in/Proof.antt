@@ -1,13 +1,14 @@
 -- `reading::low_in` meets its contract: each test in turn, by the laws of `Heads`. Assumes nothing.
 use mathlib.Core.Path.{_≡_, refl, sym, ap, _∙_}
+use Prim.Native.Nat.{_+_, _*_}
 use native.Mathlib.Omega.{arith}
-use lib.ListN.{length}
 use borrow.Author.Tests.{not-true, not-false}
 use Rattle.digits.specs.Digits.{number}
+use Rattle.golay.specs.declared.pair.Pair.{Pair}
 use Rattle.wire.specs.Wire.{header}
 use Rattle.sender.specs.Offering.{known}
 use Rattle.sender.specs.Drawing.{sizeIn, contentIn}
-use Rattle.sender.proofs.Heads.{number-six, low-short, low-long, low-other, low-changed, low-right}
+use Rattle.sender.proofs.Heads.{content-lt, header-number, low-short, low-long, low-other, low-changed, low-right}
 use borrow.Author.Needs.{needs}
 use Rattle.sender.proofs.reading.low_in.Statement.{statement}
 use Rattle.sender.proofs.reading.low_in.Tie as tie
@@ -43,53 +44,60 @@ returns-3 c =
     let z = c .before .before .before .before .before .size-in .ensures .0 in
     low-other (a .payload) (a .n) (a .h) (omega arith) (omega arith) (sym (c .before .is-known .ensures ∙ ap known (c .before .before .content-in .ensures)) ∙ not-true (c .before .is-known .result) (c .if3 .taken))
 
-cast-header-of : tie.Need-cast-header-of
-cast-header-of c = search needs
+cast-encode-pair : tie.Need-cast-encode-pair
+cast-encode-pair c = search needs
 
-header-of-requires : tie.Need-header-of-requires
-header-of-requires c κs = search needs
+mul-encode-pair : tie.Need-mul-encode-pair
+mul-encode-pair c = search needs
 
-array-read-from-six : tie.Need-array-read-from-six
-array-read-from-six c = search needs
+cast-encode-pair-2 : tie.Need-cast-encode-pair-2
+cast-encode-pair-2 c = search needs
 
-array-read-from-six-2 : tie.Need-array-read-from-six-2
-array-read-from-six-2 c = search needs
+add-encode-pair : tie.Need-add-encode-pair
+add-encode-pair c = search needs
 
-array-read-from-six-3 : tie.Need-array-read-from-six-3
-array-read-from-six-3 c = search needs
+cast-encode-pair-3 : tie.Need-cast-encode-pair-3
+cast-encode-pair-3 c = search needs
 
-array-read-from-six-4 : tie.Need-array-read-from-six-4
-array-read-from-six-4 c = search needs
+encode-pair-requires : tie.Need-encode-pair-requires
+encode-pair-requires c κs = search needs
 
-array-read-from-six-5 : tie.Need-array-read-from-six-5
-array-read-from-six-5 c = search needs
+cast-if4 : tie.Need-cast-if4
+cast-if4 c = search needs
 
-array-read-from-six-6 : tie.Need-array-read-from-six-6
-array-read-from-six-6 c = search needs
+mul-if4 : tie.Need-mul-if4
+mul-if4 c = search needs
 
-from-six-requires : tie.Need-from-six-requires
-from-six-requires c κs = search needs
+cast-if4-2 : tie.Need-cast-if4-2
+cast-if4-2 c = search needs
+
+add-if4 : tie.Need-add-if4
+add-if4 c = search needs
 
 returns-4 : tie.Need-returns-4
 returns-4 c =
-    let a = c .before .before .before .before .before .before .before .before .before .args in
-    let z = c .before .before .before .before .before .before .before .before .size-in .ensures .0 in
-    let g : c .before .before .header-of .result ≡ header (contentIn (a .h)) 0 (sizeIn (a .h)) = c .before .before .header-of .ensures ∙ rw (c .before .before .before .before .before .content-in .ensures, z) refl in
-    let l : length (c .before .before .header-of .result) ≡ 6 = search needs in
-    let h : c .before .from-six .result ≡ number 0 (header (contentIn (a .h)) 0 (sizeIn (a .h))) = c .before .from-six .ensures ∙ number-six (c .before .before .header-of .result) l ∙ ap (number 0) g in
-    low-changed (a .payload) (a .n) (a .h) (omega arith) (omega arith) (sym (c .before .before .before .before .is-known .ensures ∙ ap known (c .before .before .before .before .before .content-in .ensures)) ∙ not-false (c .before .before .before .before .is-known .result) (c .before .before .before .if3 .left)) (λ e. c .if4 .taken (h ∙ e))
+    let a = c .before .before .before .before .before .before .before .before .before .before .args in
+    let z = c .before .before .before .before .before .before .before .before .before .size-in .ensures .0 in
+    let k = c .before .before .before .before .before .before .content-in .ensures in
+    let w : Pair = c .before .before .before .encode-pair .result in
+    let e = c .before .before .before .encode-pair .ensures in
+    let h : w .first * 16777216 + w .second ≡ number 0 (header (contentIn (a .h)) 0 (sizeIn (a .h))) =
+    header-number (c .before .before .before .before .before .before .content-in .result) (c .before .before .before .before .before .before .before .before .before .size-in .result) (w .first) (w .second) (omega (arith, k, content-lt (a .h))) (c .before .before .before .before .before .before .before .before .before .size-in .ensures .1) (ap (λ (p : Pair). p .first) e) (ap (λ (p : Pair). p .second) e) ∙ rw (k, z) refl in
+    low-changed (a .payload) (a .n) (a .h) (omega arith) (omega arith) (sym (c .before .before .before .before .before .is-known .ensures ∙ ap known (c .before .before .before .before .before .before .content-in .ensures)) ∙ not-false (c .before .before .before .before .before .is-known .result) (c .before .before .before .before .if3 .left)) (λ e. c .if4 .taken (h ∙ e))
 
 add-result : tie.Need-add-result
 add-result c = search needs
 
 returns-5 : tie.Need-returns-5
 returns-5 c =
-    let a = c .before .before .before .before .before .before .before .before .before .args in
-    let z = c .before .before .before .before .before .before .before .before .size-in .ensures .0 in
-    let g : c .before .before .header-of .result ≡ header (contentIn (a .h)) 0 (sizeIn (a .h)) = c .before .before .header-of .ensures ∙ rw (c .before .before .before .before .before .content-in .ensures, z) refl in
-    let l : length (c .before .before .header-of .result) ≡ 6 = search needs in
-    let h : c .before .from-six .result ≡ number 0 (header (contentIn (a .h)) 0 (sizeIn (a .h))) = c .before .from-six .ensures ∙ number-six (c .before .before .header-of .result) l ∙ ap (number 0) g in
-    rw z (low-right (a .payload) (a .n) (a .h) (omega arith) (omega arith) (sym (c .before .before .before .before .is-known .ensures ∙ ap known (c .before .before .before .before .before .content-in .ensures)) ∙ not-false (c .before .before .before .before .is-known .result) (c .before .before .before .if3 .left)) (sym h ∙ c .if4 .left))
+    let a = c .before .before .before .before .before .before .before .before .before .before .args in
+    let z = c .before .before .before .before .before .before .before .before .before .size-in .ensures .0 in
+    let k = c .before .before .before .before .before .before .content-in .ensures in
+    let w : Pair = c .before .before .before .encode-pair .result in
+    let e = c .before .before .before .encode-pair .ensures in
+    let h : w .first * 16777216 + w .second ≡ number 0 (header (contentIn (a .h)) 0 (sizeIn (a .h))) =
+    header-number (c .before .before .before .before .before .before .content-in .result) (c .before .before .before .before .before .before .before .before .before .size-in .result) (w .first) (w .second) (omega (arith, k, content-lt (a .h))) (c .before .before .before .before .before .before .before .before .before .size-in .ensures .1) (ap (λ (p : Pair). p .first) e) (ap (λ (p : Pair). p .second) e) ∙ rw (k, z) refl in
+    rw z (low-right (a .payload) (a .n) (a .h) (omega arith) (omega arith) (sym (c .before .before .before .before .before .is-known .ensures ∙ ap known (c .before .before .before .before .before .before .content-in .ensures)) ∙ not-false (c .before .before .before .before .before .is-known .result) (c .before .before .before .before .if3 .left)) (sym h ∙ c .if4 .left))
 
 pub low-in-spec : {M : Type 1} → statement M
 low-in-spec =
@@ -103,15 +111,16 @@ low-in-spec =
     content-in-requires
     is-known-requires
     returns-3
-    cast-header-of
-    header-of-requires
-    array-read-from-six
-    array-read-from-six-2
-    array-read-from-six-3
-    array-read-from-six-4
-    array-read-from-six-5
-    array-read-from-six-6
-    from-six-requires
+    cast-encode-pair
+    mul-encode-pair
+    cast-encode-pair-2
+    add-encode-pair
+    cast-encode-pair-3
+    encode-pair-requires
+    cast-if4
+    mul-if4
+    cast-if4-2
+    add-if4
     returns-4
     add-result
     returns-5)

@@ -1,85 +1,104 @@
--- `reading::size_at` meets its contract, by the law `size-bytes`. Assumes nothing.
-use mathlib.Core.Path.{_≡_, ap, _∙_}
+-- `reading::size_at` meets its contract: by three bytes of one run, with the law `size-bytes`, or by the whole header. Assumes nothing.
+use mathlib.Core.Path.{ap, _∙_}
+use Prim.Native.Nat.{ℕ, _+_}
 use native.Mathlib.Omega.{arith}
 use lib.ListN.{length, getD}
-use mir.Syntax.{w8}
-use mir.Val.{Fits}
-use Rattle.digits.specs.Digits.{number}
-use Rattle.queue.proofs.Sixes.{six-held}
-use Rattle.sender.specs.Drawing.{headAt, sizeIn}
-use Rattle.sender.proofs.Heads.{number-six, size-bytes}
+use Rattle.queue.proofs.Runs.{place-in}
+use Rattle.sender.specs.Drawing.{sizeIn}
+use Rattle.sender.proofs.Heads.{head-run, size-bytes}
 use borrow.Author.Needs.{needs}
 use Rattle.sender.proofs.reading.size_at.Statement.{statement}
 use Rattle.sender.proofs.reading.size_at.Tie as tie
 
-six-at-requires : tie.Need-six-at-requires
-six-at-requires c κs = search needs
+place-of-requires : tie.Need-place-of-requires
+place-of-requires c κs = search needs
 
-array-read-result : tie.Need-array-read-result
-array-read-result c = search needs
+sub-if1 : tie.Need-sub-if1
+sub-if1 c =
+    let s = c .before .before in
+    let l = s .pre .0 .len in
+    let p = s .pre .1 in
+    let r = place-in (length (s .args .buf .now)) (s .args .q .head) (s .args .i) (s .pre .0 .head) _ (c .place-of .ensures) (omega arith) in
+    omega arith
 
-cast-result : tie.Need-cast-result
-cast-result c = let f : Fits w8 (getD (c .six-at .result) 1 0) = search needs in record { fits = omega (arith, f .fits) }
+head-across-requires : tie.Need-head-across-requires
+head-across-requires c κs = search needs
 
-mul-result : tie.Need-mul-result
-mul-result c = let f : Fits w8 (getD (c .six-at .result) 1 0) = search needs in record { fits = omega (arith, f .fits) }
-
-array-read-result-2 : tie.Need-array-read-result-2
-array-read-result-2 c = search needs
-
-cast-result-2 : tie.Need-cast-result-2
-cast-result-2 c = search needs
-
-mul-result-2 : tie.Need-mul-result-2
-mul-result-2 c = let f : Fits w8 (getD (c .six-at .result) 3 0) = search needs in record { fits = omega (arith, f .fits) }
-
-add-result : tie.Need-add-result
-add-result c =
-    let f : Fits w8 (getD (c .six-at .result) 1 0) = search needs in
-    let g : Fits w8 (getD (c .six-at .result) 3 0) = search needs in
-    record { fits = omega (arith, f .fits, g .fits) }
-
-array-read-result-3 : tie.Need-array-read-result-3
-array-read-result-3 c = search needs
-
-cast-result-3 : tie.Need-cast-result-3
-cast-result-3 c = let f : Fits w8 (getD (c .six-at .result) 4 0) = search needs in record { fits = omega (arith, f .fits) }
-
-add-result-2 : tie.Need-add-result-2
-add-result-2 c =
-    let f : Fits w8 (getD (c .six-at .result) 1 0) = search needs in
-    let g : Fits w8 (getD (c .six-at .result) 3 0) = search needs in
-    let h : Fits w8 (getD (c .six-at .result) 4 0) = search needs in
-    record { fits = omega (arith, f .fits, g .fits, h .fits) }
+size-in-requires : tie.Need-size-in-requires
+size-in-requires c κs = search needs
 
 returns : tie.Need-returns
-unfolding headAt
-returns c =
-    let s = c .before .before in
+returns c = (c .size-in .ensures .0 ∙ ap sizeIn (c .before .head-across .ensures), c .size-in .ensures .1)
+
+add-result : tie.Need-add-result
+add-result c = search needs
+
+shared-slice-read-result : tie.Need-shared-slice-read-result
+shared-slice-read-result c = search needs
+
+cast-result : tie.Need-cast-result
+cast-result c = omega (arith, c .shared-slice-known2 .given (c .before .before .place-of .result + 1))
+
+mul-result : tie.Need-mul-result
+mul-result c = omega (arith, c .shared-slice-known2 .given (c .before .before .place-of .result + 1))
+
+add-result-2 : tie.Need-add-result-2
+add-result-2 c = search needs
+
+shared-slice-read-result-2 : tie.Need-shared-slice-read-result-2
+shared-slice-read-result-2 c = search needs
+
+cast-result-2 : tie.Need-cast-result-2
+cast-result-2 c = omega (arith, c .shared-slice-known3 .given (c .before .before .before .place-of .result + 3))
+
+mul-result-2 : tie.Need-mul-result-2
+mul-result-2 c = omega (arith, c .shared-slice-known3 .given (c .before .before .before .place-of .result + 3))
+
+add-result-3 : tie.Need-add-result-3
+add-result-3 c = omega (arith, c .shared-slice-known3 .given (c .before .before .before .place-of .result + 1), c .shared-slice-known3 .given (c .before .before .before .place-of .result + 3))
+
+add-result-4 : tie.Need-add-result-4
+add-result-4 c = search needs
+
+shared-slice-read-result-3 : tie.Need-shared-slice-read-result-3
+shared-slice-read-result-3 c = search needs
+
+cast-result-3 : tie.Need-cast-result-3
+cast-result-3 c = omega (arith, c .shared-slice-known4 .given (c .before .before .before .before .place-of .result + 4))
+
+add-result-5 : tie.Need-add-result-5
+add-result-5 c = omega (arith, c .shared-slice-known4 .given (c .before .before .before .before .place-of .result + 1), c .shared-slice-known4 .given (c .before .before .before .before .place-of .result + 3), c .shared-slice-known4 .given (c .before .before .before .before .place-of .result + 4))
+
+returns-2 : tie.Need-returns-2
+returns-2 c =
+    let s = c .before .before .before .before .before .before in
     let a = s .args in
-    let b = c .six-at .result in
-    let l : length b ≡ 6 = search needs in
-    let f₁ : Fits w8 (getD b 1 0) = search needs in
-    let f₂ : Fits w8 (getD b 2 0) = search needs in
-    let f₃ : Fits w8 (getD b 3 0) = search needs in
-    let f₄ : Fits w8 (getD b 4 0) = search needs in
-    let f₅ : Fits w8 (getD b 5 0) = search needs in
-    let e = size-bytes (getD b 0 0) (getD b 1 0) (getD b 2 0) (getD b 3 0) (getD b 4 0) (getD b 5 0) (f₁ .fits) (f₂ .fits) (f₃ .fits) (f₄ .fits) (f₅ .fits) in
-    (e ∙ ap sizeIn (number-six b l ∙ ap (number 0) (c .six-at .ensures ∙ six-held (a .buf .now) (a .q) (a .i) (s .pre .0) (s .pre .1))), omega (arith, f₁ .fits, f₃ .fits, f₄ .fits))
+    let b = a .buf .now in
+    let at : ℕ = c .before .before .before .before .place-of .result in
+    let byte = c .shared-slice-known4 .given in
+    let e = size-bytes (getD b at 0) (getD b (at + 1) 0) (getD b (at + 2) 0) (getD b (at + 3) 0) (getD b (at + 4) 0) (getD b (at + 5) 0) (omega (arith, byte (at + 1))) (omega (arith, byte (at + 2))) (omega (arith, byte (at + 3))) (omega (arith, byte (at + 4))) (omega (arith, byte (at + 5))) in
+    (e ∙ ap sizeIn (head-run b (a .q) (a .i) at (s .pre .0) (s .pre .1) (c .before .before .before .before .place-of .ensures) (omega (arith, c .before .before .before .if1 .left))), omega (arith, byte (at + 1), byte (at + 3), byte (at + 4)))
 
 pub size-at-spec : {M : Type 1} → statement M
 size-at-spec =
     tie.close
     (tie.spec
-    six-at-requires
-    array-read-result
+    place-of-requires
+    sub-if1
+    head-across-requires
+    size-in-requires
+    returns
+    add-result
+    shared-slice-read-result
     cast-result
     mul-result
-    array-read-result-2
+    add-result-2
+    shared-slice-read-result-2
     cast-result-2
     mul-result-2
-    add-result
-    array-read-result-3
+    add-result-3
+    add-result-4
+    shared-slice-read-result-3
     cast-result-3
-    add-result-2
-    returns)
+    add-result-5
+    returns-2)
