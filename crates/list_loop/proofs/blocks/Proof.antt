@@ -19,7 +19,7 @@ abbrev μ-loop : tie.MeasureT-loop
 loop-holds : tie.Need-loop-holds Inv-loop μ-loop
 loop-holds c =
     let p = c .before .before .before .pre in
-    (p .0, (omega (arith, p .1), (refl, (refl, refl))))
+    (p .0, (omega (arith, p .1 .done), (refl, (refl, refl))))
 
 turns-requires : tie.Need-turns-requires Inv-loop μ-loop
 turns-requires c κs = c .before .before .before .before .loop .inv .0
