@@ -564,6 +564,22 @@ def long_offers(rng):
     yield call(LOW, 1, 0, 0, 50, 5, bytes(5))
 
 
+def past_long_calls():
+    """Draws past EPs of 32,767 bytes and more: each TP tells where the next EP begins, and the receiver reads it."""
+    queue, room = 65600, 65535
+    yield call(LIMIT, 100)
+    for size in (32767, 32768, 65535):
+        yield call(SENDER, 2051, 0, 65535, queue, 0)
+        yield call(RECEIVER, 2051, 0, room)
+        yield call(ORDINARY, 1, 0, 0, queue, 0, bytes(place % 251 for place in range(size)))
+        yield call(ORDINARY, 2, 0, 0, queue, 0, b"next")
+        for _ in range(size // 2047 + 2):
+            yield call(DRAW, 2051, 0, 0, queue, 0)
+            yield call(HAND)
+            yield call(ALL_ABOUT, 2051, 0, room)
+    yield call(LIMIT, 0xFFFFFFFF)
+
+
 def call_list(rng):
     entries = []
     if rng.random() < 0.1:

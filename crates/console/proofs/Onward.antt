@@ -1,16 +1,19 @@
 -- What the loops over the input block stand on: a whole record lies within the stretch at hand, and what was read within the block.
 -- Assumes nothing.
 use Prim.Native.Nat.{ℕ, _+_, _-_, _≤_}
-use mathlib.Core.Path.{_≡_, subst}
+use mathlib.Core.Path.{_≡_, ap, sym, subst, _∙_}
 use mathlib.Core.List.{List}
 use native.Mathlib.Omega.{arith}
 use lib.ListN.{length, take, drop, length-take, length-drop}
+use lib.Seq.{drop-drop}
 use Rattle.house.specs.declared.Record.{Record}
 use Rattle.house.specs.declared.Place.{Place}
 use Rattle.house.specs.declared.Setup.{Setup}
 use Rattle.house.specs.declared.AtHand.the-variants.{Whole}
+use Rattle.house.specs.Series.{unreadIn}
 use Rattle.house.specs.Slices.{atHand, dataIn}
 use Rattle.house.proofs.Slicing.{whole-fits}
+use Rattle.queue.proofs.Copies.{drop-take}
 use Rattle.console.specs.declared.Unread.{Unread}
 use Rattle.console.specs.declared.More.{More}
 use Rattle.console.specs.declared.More.the-variants.{Read}
@@ -26,6 +29,15 @@ data-within p b x from till r h is e =
     let most : length (dataIn r s) ≤ length s - 8 = rw (length-take, length-drop) (omega arith) in
     let same : length x ≡ length (dataIn r s) = rw e in
     omega (arith, whole-fits p s r is)
+
+-- what is unread behind a record
+pub unread-behind : (block : List ℕ) (from till k to : ℕ) → to ≡ from + k → to ≤ till → drop k (unreadIn block from till) ≡ unreadIn block to till
+unread-behind block from till k to e h =
+    let size : till - from ≡ k + (till - to) = omega arith in
+    ap (λ (n : ℕ). drop k (take n (drop from block))) size
+    ∙ drop-take k (till - to) (drop from block)
+    ∙ ap (take (till - to)) (drop-drop k from block)
+    ∙ ap (λ (n : ℕ). take (till - to) (drop n block)) (sym e)
 
 -- what `first` and `go_on` promise, once their case is known
 

@@ -7,7 +7,7 @@ use native.Mathlib.Omega.{arith}
 use borrow.Author.Tests.{le-leb, lt-leb, leb-true, eq-eqb, ne-eqb, eqb-true, eqb-false}
 use lib.Dec.{eqb, leb}
 use lib.ListN.{length, take, drop, getD, length-append, length-take, length-drop, drop-of-length-le}
-use lib.Seq.{take-all, take-nil, getD-take, length-take-le}
+use lib.Seq.{take-all, take-nil, getD-take, length-take-le, take-append-seam, take-append-le, drop-append-le}
 use Rattle.block.specs.Block.{Block, placed, put}
 use Rattle.block.proofs.Laws.{fits, then, blockOf}
 use Rattle.digits.specs.Digits.{number}
@@ -231,6 +231,15 @@ front-whole p s n r enough is =
     let good : judgedOf p s ≡ Good r = subst (Says (judgedOf p s)) is (says p s) in
     sym (is-whole p (take n s) r (omega arith) (sym good ∙ sym (judged-front p s n (omega arith))) refl refl (omega arith))
 
+-- and with more bytes behind it
+pub more-whole : (p : Place) (s more : List ℕ) (r : Record) → atHand p s ≡ A.Whole r → atHand p (s ++ more) ≡ A.Whole r
+more-whole p s more r is =
+    let fits = whole-fits p s r is in
+    let long : length (s ++ more) ≡ length s + length more = length-append s more in
+    let good : judgedOf p s ≡ Good r = subst (Says (judgedOf p s)) is (says p s) in
+    let same : judgedOf p s ≡ judgedOf p (s ++ more) = ap (judgedOf p) (sym (take-append-seam s more)) ∙ judged-front p (s ++ more) (length s) (omega arith) in
+    sym (is-whole p (s ++ more) r (omega arith) (sym good ∙ same) refl refl (omega arith))
+
 -- ---- the data
 
 pub no-data : (r : Record) (s : List ℕ) → length s < 8 → take (0 - 0) (drop 0 s) ≡ dataIn r s
@@ -248,6 +257,13 @@ as-said r s n e = let k : 8 + n - 8 ≡ lengthOf r = omega arith in rw k
 -- a whole record has all of them
 pub whole-data : (p : Place) (s : List ℕ) (r : Record) → atHand p s ≡ A.Whole r → length (dataIn r s) ≡ lengthOf r
 whole-data p s r is = length-take-le (lengthOf r) (drop 8 s) (rw length-drop (omega (arith, whole-fits p s r is)))
+
+-- and they stay with more bytes behind them
+pub more-data : (p : Place) (s more : List ℕ) (r : Record) → atHand p s ≡ A.Whole r → dataIn r (s ++ more) ≡ dataIn r s
+more-data p s more r is =
+    let fits = whole-fits p s r is in
+    ap (take (lengthOf r)) (drop-append-le 8 s more (omega arith))
+    ∙ take-append-le (lengthOf r) (drop 8 s) more (rw length-drop (omega arith))
 
 -- ---- written
 

@@ -4,6 +4,7 @@ ghost use mathlib.Core.Path.{_≡_};
 ghost use Prim.Native.Nat.{_≤_};
 ghost use lib.ListN.{length};
 ghost use Rattle.list_loop.specs.Running.{Fit, Onward, Ready, Ahead, Found, Does, Listed};
+ghost use Rattle.list_loop.specs.Whole.{Begins, settingOf};
 use console::BLOCKS;
 use console::FULL;
 use console::More;
@@ -96,7 +97,8 @@ fn turns(first: Run, till: usize, block: &[u8], room: &mut [u8], out: &mut [u8])
 
 // Takes block after block.
 fn blocks(first: Run, input: Unread, block: &mut [u8], room: &mut [u8], out: &mut [u8])
-    requires { ⌜ Ready first (input .till) (length (now block)) (length (now out)) × (first .done ≡ 0) ⌝ }
+    requires { ⌜ Ready first (input .till) (length (now block)) (length (now out)) ⌝ }
+    requires { ⌜ Begins (settingOf (first .receiver)) first (now room) (now out) ⌝ }
 {
     let mut run = first;
     let mut gone = input.gone;

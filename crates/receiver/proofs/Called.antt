@@ -157,19 +157,41 @@ module _ (r : Receiver) (n : Stamps) (tp m : List ℕ) (q : Step) (m′ : List �
   shown-over e =
       ap shown e ∙ ap (λ (l : List (Finding wire)). (l, standOf (q .receiver) m′)) (append-nil (saying (r .limit) (q .find) (q .about) (dataOf (q .find) tp m′)))
 
+-- one call of a TP
+module _ (by : Receiver → Stamps) (r : Receiver) (tp m : List ℕ) (q : Step) (m′ : List ℕ) (g : Gives (callAs r (by r) tp m) q tp m′) (a : Able r)
+    (f : length m ≡ r .limit) (w : length tp ≡ r .size) where
+  -- the last leaves no find to come
+  last-rest : Ended (q .find) → comingOf (r .stage) r (by r) tp m ≡ (saying (r .limit) (q .find) (q .about) (dataOf (q .find) tp m′), standOf (q .receiver) m′)
+  last-rest e =
+      rest-as r (by r) tp m a f w ∙ shown-rest r (by r) tp m q m′ g
+      ∙ shown-over r (by r) tp m q m′ g (told-over r (by r) tp m q m′ g (tells-as r (by r) tp m f w) e)
+
+  -- another takes the first, and leaves the others
+  pub more-rest : Steady by → (Ended (q .find) → ⊥)
+      → comingOf (r .stage) r (by r) tp m
+      ≡ before (saying (r .limit) (q .find) (q .about) (dataOf (q .find) tp m′)) (comingOf (q .receiver .stage) (q .receiver) (by (q .receiver)) tp m′)
+  more-rest y d =
+      let unfinished : q .receiver .stage ≡ S.Fresh → ⊥ = λ e. d (told-on r (by r) tp m q m′ g (tells-as r (by r) tp m f w) e) in
+      let same = y r (q .receiver) unfinished (gave-count r (by r) tp m q m′ g unfinished) in
+      rest-as r (by r) tp m a f w ∙ shown-rest r (by r) tp m q m′ g
+      ∙ ap (before (saying (r .limit) (q .find) (q .about) (dataOf (q .find) tp m′)))
+      (stage-coming (q .receiver .stage) (q .receiver) (by (q .receiver)) tp m′ (r .limit) (by r .now) (sym (gave-limit r (by r) tp m q m′ g)) (sym same) unfinished)
+
+  -- and it can be lent the same again
+  pub full-on : length m′ ≡ q .receiver .limit
+  full-on = gave-room r (by r) tp m q m′ g ∙ f ∙ sym (gave-limit r (by r) tp m q m′ g)
+
+  pub whole-on : length tp ≡ q .receiver .size
+  whole-on = w ∙ sym (gave-size r (by r) tp m q m′ g)
+
 -- THE FINDS TO COME are those that the calls give
 pub calls-rest : {by : Receiver → Stamps} {r : Receiver} {tp m : List ℕ} {fs : List (Finding wire)} {r′ : Receiver} {m′ : List ℕ} → Calls by tp r m fs r′ m′
     → Steady by → Able r → length m ≡ r .limit → length tp ≡ r .size → comingOf (r .stage) r (by r) tp m ≡ (fs, standOf r′ m′)
-calls-rest {by} {r} {tp} {m} (last {q = q} {m′ = m′} g e) y a f w =
-    rest-as r (by r) tp m a f w ∙ shown-rest r (by r) tp m q m′ g
-    ∙ shown-over r (by r) tp m q m′ g (told-over r (by r) tp m q m′ g (tells-as r (by r) tp m f w) e)
+calls-rest {by} {r} {tp} {m} (last {q = q} {m′ = m′} g e) y a f w = last-rest by r tp m q m′ g a f w e
 calls-rest {by} {r} {tp} {m} (more {q = q} {m′ = m′} g d c) y a f w =
-    let unfinished : q .receiver .stage ≡ S.Fresh → ⊥ = λ e. d (told-on r (by r) tp m q m′ g (tells-as r (by r) tp m f w) e) in
-    let same = y r (q .receiver) unfinished (gave-count r (by r) tp m q m′ g unfinished) in
-    rest-as r (by r) tp m a f w ∙ shown-rest r (by r) tp m q m′ g
+    more-rest by r tp m q m′ g a f w y d
     ∙ ap (before (saying (r .limit) (q .find) (q .about) (dataOf (q .find) tp m′)))
-    (stage-coming (q .receiver .stage) (q .receiver) (by (q .receiver)) tp m′ (r .limit) (by r .now) (sym (gave-limit r (by r) tp m q m′ g)) (sym same) unfinished
-    ∙ calls-rest c y (g .able) (gave-room r (by r) tp m q m′ g ∙ f ∙ sym (gave-limit r (by r) tp m q m′ g)) (w ∙ sym (gave-size r (by r) tp m q m′ g)))
+    (calls-rest c y (g .able) (full-on by r tp m q m′ g a f w) (whole-on by r tp m q m′ g a f w))
 
 -- a TP of another length: 6, and nothing else changes
 pub six-rest : (r : Receiver) (n : Stamps) (tp m : List ℕ) → r .stage ≡ S.Fresh → length m ≡ r .limit → (length tp ≡ r .size → ⊥)

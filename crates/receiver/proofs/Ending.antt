@@ -52,11 +52,20 @@ Within tp (F.Notice n) d = 0 ≤ 0
 Within tp (F.Low c start n) d = start + n ≤ length tp
 Within tp (F.Ordinary c n) d = n ≡ length d
 
+-- 1 is for buffers of another length; no notice is below 6
+abbrev pub Numbered : Find → Type 0
+Numbered F.Nothing = 0 ≤ 0
+Numbered F.Refused = 1 ≤ 0
+Numbered (F.Notice n) = 6 ≤ n
+Numbered (F.Low c start n) = 0 ≤ 0
+Numbered (F.Ordinary c n) = 0 ≤ 0
+
 -- the answer and the stage agree, and the answer is within bounds
 pub record Tells (tp : List ℕ) (g : Gave) : Type 0 where
   pub over : Ended (g .said .find) → g .stage ≡ S.Fresh
   pub ended : g .stage ≡ S.Fresh → Ended (g .said .find)
   pub within : Within tp (g .said .find) (g .said .bytes)
+  pub numbered : Numbered (g .said .find)
 
 not-fresh : S.Plain ≡ S.Fresh → ⊥
 not-fresh e = let z : _≡_ {A = ℕ} 0 1 = cc in omega arith
@@ -104,6 +113,13 @@ on-find z (F.Notice n) a e = omega arith
 on-find z (F.Low c start n) a e = omega arith
 on-find z (F.Ordinary c n) a e = omega arith
 
+on-numbered : (z : ℕ) (f : Find) → OnFind z f → Numbered f
+on-numbered z F.Nothing a = omega arith
+on-numbered z F.Refused a = a
+on-numbered z (F.Notice n) a = omega arith
+on-numbered z (F.Low c start n) a = omega arith
+on-numbered z (F.Ordinary c n) a = omega arith
+
 on-stage : (more : Bool) (o : ℕ) → cond more (S.Low o) (S.Due o) ≡ S.Fresh → ⊥
 on-stage true o e = let z : _≡_ {A = ℕ} 0 1 = cc in omega arith
 on-stage false o e = let z : _≡_ {A = ℕ} 0 1 = cc in omega arith
@@ -111,10 +127,10 @@ on-stage false o e = let z : _≡_ {A = ℕ} 0 1 = cc in omega arith
 -- in a TP of this stamp
 module _ (r : Receiver) (t : Stamp) (tp m : List ℕ) where
   plain-tells : (x : Option (Finding wire)) (p : Pulled wire) → LateFind x → Tells tp (ordinaryBy x r t p)
-  plain-tells none p l = record { over = λ e. refl; ended = λ e. omega arith; within = omega arith }
-  plain-tells (some (notice n g)) p l = record { over = λ e. absurd (omega arith); ended = λ e. absurd (not-fresh e); within = omega arith }
+  plain-tells none p l = record { over = λ e. refl; ended = λ e. omega arith; within = omega arith; numbered = omega arith }
+  plain-tells (some (notice n g)) p l = record { over = λ e. absurd (omega arith); ended = λ e. absurd (not-fresh e); within = omega arith; numbered = omega arith }
   plain-tells (some (low c d)) p l = absurd (omega arith)
-  plain-tells (some (ordinary c d)) p l = record { over = λ e. absurd (omega arith); ended = λ e. absurd (not-fresh e); within = refl }
+  plain-tells (some (ordinary c d)) p l = record { over = λ e. absurd (omega arith); ended = λ e. absurd (not-fresh e); within = refl; numbered = omega arith }
 
   start-tells : (at : ℕ) (x : Start wire) → AllLate (x .told) → Tells tp (startCall r t at x tp m)
   start-tells at x l =
@@ -137,21 +153,21 @@ module _ (r : Receiver) (t : Stamp) (tp m : List ℕ) where
   low-tells : (l : Lows) (o : ℕ) → OnLows (length tp) l → Tells tp (lowCall l r t o tp m)
   low-tells (L.Broken at) o a = start-tells at (dropped wire 11 (placeAt t at) (placed t at (drop at tp))) (omega arith, omega arith)
   low-tells (L.End at) o a = due-tells o at
-  low-tells (L.Gives f e from more at) o a = record { over = λ e. absurd (on-find (length tp) f a e); ended = λ e. absurd (on-stage more o e); within = found-in f a }
+  low-tells (L.Gives f e from more at) o a = record { over = λ e. absurd (on-find (length tp) f a e); ended = λ e. absurd (on-stage more o e); within = found-in f a; numbered = on-numbered (length tp) f a }
 
   payloadCall-tells : (b : Bool) (o : ℕ) → Tells tp (payloadCall b r t o tp m)
   payloadCall-tells true o = low-tells (lowsOf tp 4) o (walk-goes tp 4)
   payloadCall-tells false o = due-tells o 4
 
   gone-tells : (n : ℕ) → 6 ≤ n → n ≤ 9 → Tells tp (gone r t n m)
-  gone-tells n a b = record { over = λ e. refl; ended = λ e. (a, b); within = omega arith }
+  gone-tells n a b = record { over = λ e. refl; ended = λ e. (a, b); within = omega arith; numbered = a }
 
   begun-tells : (o : Option ℕ) → Tells tp (wordCall o r t tp m)
   begun-tells none = gone-tells 9 (omega arith) (omega arith)
   begun-tells (some w) = payloadCall-tells (leb 2048 w) (w % 2048)
 
   still-tells : (n : ℕ) → 6 ≤ n → n ≤ 9 → r .stage ≡ S.Fresh → Tells tp (unchanged r t (F.Notice n) n m)
-  still-tells n a b e = record { over = λ z. e; ended = λ z. (a, b); within = omega arith }
+  still-tells n a b e = record { over = λ z. e; ended = λ z. (a, b); within = omega arith; numbered = a }
 
 -- a call by these stamps, which counts the TP
 module _ (r : Receiver) (n : Stamps) (tp m : List ℕ) where

@@ -127,7 +127,7 @@ pub data Life : Receiver → List ℕ → List Input → List (Finding wire) →
       → (q ≡ gapOf r) × Able q → Life q m xs gs r″ m″ → Life r m (gapTold ∷ xs) gs r″ m″
 
 -- between two TPs, the stamps of the next one are those of the count
-own-stamps : (r : Receiver) → r .stage ≡ S.Fresh → stampsOf r ≡ stampingOf (r .count)
+pub own-stamps : (r : Receiver) → r .stage ≡ S.Fresh → stampsOf r ≡ stampingOf (r .count)
 own-stamps r e = ap (λ (g : Stage). record { before = ownOf (r .count); now = ownOf (countIn g (r .count)) }) e
 
 -- LISTENING

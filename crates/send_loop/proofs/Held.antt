@@ -4,7 +4,6 @@ use mathlib.Core.Path.{_≡_, refl, ap, sym, subst, _∙_}
 use mathlib.Core.List.{List, [], _∷_, _++_, append-assoc, append-nil}
 use native.Mathlib.Omega.{arith}
 use lib.ListN.{length, take, drop}
-use lib.Seq.{drop-drop}
 use Rattle.house.specs.Records.{lengthOf}
 use Rattle.house.specs.Series.{unreadIn, Item, Taken, nothing, then}
 use Rattle.house.specs.Slices.{atHand, dataIn}
@@ -12,7 +11,7 @@ use Rattle.house.specs.declared.AtHand.the-variants.{Whole}
 use Rattle.house.specs.declared.Place.the-variants.{Sending}
 use Rattle.house.specs.declared.Record.{Record}
 use Rattle.house.proofs.Slicing.{whole-data}
-use Rattle.queue.proofs.Copies.{drop-take}
+use Rattle.console.proofs.Onward.{unread-behind}
 use Rattle.sender.specs.Run.{World}
 use Rattle.sending.specs.Scripts.{asked, writes, leaves, sentBy, leftBy}
 use Rattle.sending.specs.Turn.{After, turnOf}
@@ -23,15 +22,6 @@ use Rattle.send_loop.specs.declared.Run.{Run}
 pub sent-none : (tp till : ℕ) (block : List ℕ) (r : Run) (low ordinary out : List ℕ) → Sent tp till block r low ordinary out r low ordinary out
 sent-none tp till block r low ordinary out =
     record { records = []; taken = nothing; held = sym (append-nil (take (r .at) out)); world = refl }
-
--- what is unread behind a record
-behind : (block : List ℕ) (from till k to : ℕ) → to ≡ from + k → to ≤ till → drop k (unreadIn block from till) ≡ unreadIn block to till
-behind block from till k to e h =
-    let size : till - from ≡ k + (till - to) = omega arith in
-    ap (λ (n : ℕ). drop k (take n (drop from block))) size
-    ∙ drop-take k (till - to) (drop from block)
-    ∙ ap (take (till - to)) (drop-drop k from block)
-    ∙ ap (λ (n : ℕ). take (till - to) (drop n block)) (sym e)
 
 module _ (tp till : ℕ) (block : List ℕ) (first : Run) (low₀ ordinary₀ out₀ : List ℕ) (run : Run) (low ordinary out : List ℕ)
     (sent : Sent tp till block first low₀ ordinary₀ out₀ run low ordinary out) where
@@ -48,7 +38,7 @@ module _ (tp till : ℕ) (block : List ℕ) (first : Run) (low₀ ordinary₀ ou
       let w : World = worldOf run low ordinary in
       let v : World = leftBy tp w₀ xs in
       let long : length sp ≡ lengthOf said = ap length is ∙ whole-data Sending u said whole in
-      let on : drop (8 + lengthOf said) u ≡ unreadIn block (r .from) till = behind block (run .from) till (8 + lengthOf said) (r .from) (omega (arith, long, from)) end in
+      let on : drop (8 + lengthOf said) u ≡ unreadIn block (r .from) till = unread-behind block (run .from) till (8 + lengthOf said) (r .from) (omega (arith, long, from)) end in
       record {
         records = xs ++ x ∷ [];
         taken = subst (Taken Sending (unreadIn block (first .from) till) (xs ++ x ∷ [])) on (then (sent .taken) whole);

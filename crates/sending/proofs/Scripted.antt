@@ -128,18 +128,25 @@ module _ (s : Sender) (x low ordinary : List ℕ) (tp : ℕ) (d : List ℕ) (at 
   turned-held (Packet n) = stays [] refl
   turned-held Gap = stays [] refl
 
--- ---- one record more
+-- ---- records behind records
 
+pub sent-append : (tp : ℕ) (v : World) (xs ys : List Item) → sentBy tp v (xs ++ ys) ≡ sentBy tp v xs ++ sentBy tp (leftBy tp v xs) ys
+sent-append tp v [] ys = refl
+sent-append tp v (x ∷ xs) ys =
+    let u = leaves v (asked tp (x .said) (x .bytes)) in
+    let a = writes tp v (asked tp (x .said) (x .bytes)) in
+    ap (λ (z : List ℕ). a ++ z) (sent-append tp u xs ys) ∙ sym (append-assoc a (sentBy tp u xs) (sentBy tp (leftBy tp u xs) ys))
+
+pub left-append : (tp : ℕ) (v : World) (xs ys : List Item) → leftBy tp v (xs ++ ys) ≡ leftBy tp (leftBy tp v xs) ys
+left-append tp v [] ys = refl
+left-append tp v (x ∷ xs) ys = left-append tp (leaves v (asked tp (x .said) (x .bytes))) xs ys
+
+-- one more
 pub sent-more : (tp : ℕ) (v : World) (xs : List Item) (x : Item)
     → sentBy tp v (xs ++ x ∷ []) ≡ sentBy tp v xs ++ writes tp (leftBy tp v xs) (asked tp (x .said) (x .bytes))
-sent-more tp v [] x = append-nil (writes tp v (asked tp (x .said) (x .bytes)))
-sent-more tp v (y ∷ ys) x =
-    let u = leaves v (asked tp (y .said) (y .bytes)) in
-    let a = writes tp v (asked tp (y .said) (y .bytes)) in
-    ap (λ (z : List ℕ). a ++ z) (sent-more tp u ys x)
-    ∙ sym (append-assoc a (sentBy tp u ys) (writes tp (leftBy tp u ys) (asked tp (x .said) (x .bytes))))
+sent-more tp v xs x =
+    sent-append tp v xs (x ∷ []) ∙ ap (λ (z : List ℕ). sentBy tp v xs ++ z) (append-nil (writes tp (leftBy tp v xs) (asked tp (x .said) (x .bytes))))
 
 pub left-more : (tp : ℕ) (v : World) (xs : List Item) (x : Item)
     → leftBy tp v (xs ++ x ∷ []) ≡ leaves (leftBy tp v xs) (asked tp (x .said) (x .bytes))
-left-more tp v [] x = refl
-left-more tp v (y ∷ ys) x = left-more tp (leaves v (asked tp (y .said) (y .bytes))) ys x
+left-more tp v xs x = left-append tp v xs (x ∷ [])

@@ -1,17 +1,20 @@
--- `list_loop::blocks` is safe and ends: it counts down. The invariant: no more TPs are done than the blocks so far have bytes.
+-- `list_loop::blocks` is safe and ends: it counts down. The invariant: no more TPs are done than the blocks so far have bytes,
+-- and the blocks follow each other as the theorem on the whole listing asks.
 -- Assumes nothing.
 use Prim.Native.Nat.{_+_, _*_, _≤_}
 use mathlib.Core.Path.{_≡_, refl}
 use native.Mathlib.Omega.{arith}
 use lib.ListN.{length}
 use Rattle.list_loop.specs.Running.{Ready}
+use Rattle.list_loop.specs.Whole.{settingOf}
+use Rattle.list_loop.proofs.Rounds.{Comes, begins, round}
 use Rattle.console.proofs.Onward.{goes-on}
 use borrow.Author.Needs.{needs}
 use Rattle.list_loop.proofs.blocks.Statement.{statement}
 use Rattle.list_loop.proofs.blocks.Tie as tie
 
 abbrev Inv-loop : tie.InvT-loop
-Inv-loop block₀ room₀ out₀ run₀ gone₀ till₀ left₀ t15 block room out run gone till left = Ready run till (length block) (length out) × ((run .done + left * 131072 ≤ 9223372036854775808) × ((length block ≡ length block₀) × ((length room ≡ length room₀) × (length out ≡ length out₀))))
+Inv-loop block₀ room₀ out₀ run₀ gone₀ till₀ left₀ t15 block room out run gone till left = (Ready run till (length block) (length out) × Comes (settingOf (run₀ .receiver)) till block run room out) × ((run .done + left * 131072 ≤ 9223372036854775808) × ((length block ≡ length block₀) × ((length room ≡ length room₀) × (length out ≡ length out₀))))
 
 abbrev μ-loop : tie.MeasureT-loop
 μ-loop block₀ room₀ out₀ run₀ gone₀ till₀ left₀ t15 block room out run gone till left = left
@@ -19,10 +22,10 @@ abbrev μ-loop : tie.MeasureT-loop
 loop-holds : tie.Need-loop-holds Inv-loop μ-loop
 loop-holds c =
     let p = c .before .before .before .pre in
-    (p .0, (omega (arith, p .1), (refl, (refl, refl))))
+    ((p .0, begins (p .1)), (omega (arith, p .1 .done), (refl, (refl, refl))))
 
 turns-requires : tie.Need-turns-requires Inv-loop μ-loop
-turns-requires c κs = c .before .before .before .before .loop .inv .0
+turns-requires c κs = c .before .before .before .before .loop .inv .0 .0
 
 slice-aggregate-go-on : tie.Need-slice-aggregate-go-on Inv-loop μ-loop
 slice-aggregate-go-on c = search needs
@@ -57,18 +60,22 @@ loop-less c = search needs
 loop-again : tie.Need-loop-again Inv-loop μ-loop
 loop-again c =
     let i = c .before .before .before .before .before .before .before .before .before .before .before .before .before .before .before .before .before .before .before .loop .inv in
-    let r = i .0 in
-    let a = c .before .before .before .before .before .before .before .before .before .before .before .before .before .before .turns .ensures .0 in
+    let r = i .0 .0 in
+    let t = c .before .before .before .before .before .before .before .before .before .before .before .before .before .before .turns .ensures in
+    let a = t .0 in
     let m = goes-on _ _ _ _ _ (c .before .before .before .before .before .before .go-on .ensures) (c .before .before .next .given .1) in
     let fewer = c .before .before .before .before .before .before .before .before .before .before .before .before .before .before .before .before .before .before .loop-test .taken in (
-      record {
-        able = a .able;
-        room = omega (arith, r .room, c .before .before .before .before .before .before .before .before .before .before .before .out .given);
-        from = m .from;
-        end = m .end;
-        size = omega (arith, r .size, c .before .before .before .before .before .block .given);
-        count = omega (arith, a .count, a .end, r .end, r .size, i .1 .0, fewer);
-      },
+      (
+        record {
+          able = a .able;
+          room = omega (arith, r .room, c .before .before .before .before .before .before .before .before .before .before .before .out .given);
+          from = m .from;
+          end = m .end;
+          size = omega (arith, r .size, c .before .before .before .before .before .block .given);
+          count = omega (arith, a .count, a .end, r .end, r .size, i .1 .0, fewer);
+        },
+        round (i .0 .1) (t .1) (a .end) (r .end) m,
+      ),
       (omega (arith, a .count, a .end, r .end, r .size, i .1 .0, fewer), (omega (arith, c .before .before .before .before .before .block .given, i .1 .1 .0), (omega (arith, c .before .before .before .before .before .before .before .before .before .before .before .before .before .room .given, i .1 .1 .1 .0), omega (arith, c .before .before .before .before .before .before .before .before .before .before .before .out .given, i .1 .1 .1 .1)))),
     )
 

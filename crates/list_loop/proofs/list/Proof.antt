@@ -2,8 +2,10 @@
 -- Assumes nothing.
 use mathlib.Core.Path.{refl, subst}
 use native.Mathlib.Omega.{arith}
+use Rattle.listing.proofs.Heard.{header-held}
 use Rattle.receiver.specs.Call.{AbleIf}
 use borrow.Author.Needs.{needs}
+use Rattle.list_loop.proofs.Beginning.{begins}
 use Rattle.list_loop.proofs.list.Statement.{statement}
 use Rattle.list_loop.proofs.list.Tie as tie
 
@@ -42,16 +44,18 @@ slice-aggregate-blocks-2 c = search needs
 
 blocks-requires : tie.Need-blocks-requires
 blocks-requires c κs =
-    let p = c .before .before .before .before .before .before .before .before .before .before .before .before .pre in (
+    let p = c .before .before .before .before .before .before .before .before .before .before .before .before .pre in
+    let opened = c .before .before .before .before .before .before .before .before .before .«open» .ensures in
+    let is = c .before .before .before .before .before .before .before .receiver .given .1 in (
       record {
-        able = subst AbleIf (c .before .before .before .before .before .before .before .receiver .given .1) (c .before .before .before .before .before .before .before .before .before .«open» .ensures .able);
+        able = subst AbleIf is (opened .able);
         room = omega arith;
         from = p .1 .0;
         end = p .1 .1;
         size = p .0;
         count = omega arith;
       },
-      refl,
+      begins _ _ _ _ _ _ opened is refl (header-held _ _ _ (omega arith) (c .before .before .before .before .header .ensures)),
     )
 
 same-length : tie.Need-same-length
