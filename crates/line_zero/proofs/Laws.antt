@@ -11,11 +11,13 @@ use lib.ListN.{length, take, drop, set, getD, length-append, length-set, length-
 use lib.Seq.{length-take-le, take-all, take-at, drop-at, drop-drop, drop-append-add, drop-cons, take-suc, set-split}
 use borrow.Author.Tests.{le-leb, lt-leb, eq-eqb, ne-eqb}
 use Rattle.block.specs.Block.{Block, placed, put}
+use Rattle.block.specs.Decimal.{padded}
 use Rattle.block.proofs.Laws.{fits, length-placed, then, blockOf}
+use Rattle.block.proofs.Decimals.{padded-long}
 use Rattle.line_zero.specs.declared.Top.{Top}
 use Rattle.line_zero.specs.declared.Reads.{Reads}
 use Rattle.line_zero.specs.declared.Reads.the-variants.{NoIndex, Says}
-use Rattle.line_zero.specs.Top.{padded, digits20, coveredWord, sinceWord, endWord, fromWord, sizeWord, field, topText, digitOf, valueOf, held, numberAt, numbersIn, equal, topIn, Small}
+use Rattle.line_zero.specs.Top.{digits20, coveredWord, sinceWord, endWord, fromWord, sizeWord, field, topText, digitOf, valueOf, held, numberAt, numbersIn, equal, topIn, Small}
 
 -- ---- digits written from the last one on: those behind index i are there, those of rest are not
 
@@ -139,13 +141,6 @@ value-back (suc k) n h =
   where
     whole : (n : ℕ) → n / 10 * 10 + n % 10 ≡ n
     whole n = omega arith
-
-pub padded-long : (k n : ℕ) → length (padded k n) ≡ k
-padded-long zero n = refl
-padded-long (suc k) n = length-append (padded k (n / 10)) ((48 + n % 10) ∷ []) ∙ sums (length (padded k (n / 10))) k (padded-long k (n / 10))
-  where
-    sums : (a b : ℕ) → a ≡ b → a + 1 ≡ suc b
-    sums a b e = omega arith
 
 pub twenty-long : (n : ℕ) → length (digits20 n) ≡ 20
 unfolding digits20
