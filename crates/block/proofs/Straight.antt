@@ -126,16 +126,17 @@ module _ (d y : List ℕ) (at r n : ℕ) (room : at + 8 ≤ length d) (some : 10
 
   pub four-fit : r + 4 ≤ length y
   four-fit =
-      omega
-      (arith,
-      short,
-      ap (λ (k : Block). k .at) placed-front,
-      ap (λ (k : Block). length (k .bytes)) placed-front,
-      length-placed d at (decimal (n / 10000)) (omega (arith, short)))
+      omega (
+        arith,
+        short,
+        ap (λ (k : Block). k .at) placed-front,
+        ap (λ (k : Block). length (k .bytes)) placed-front,
+        length-placed d at (decimal (n / 10000)) (omega (arith, short)),
+      )
 
   pub joined-four : (z : List ℕ) → z ≡ placed y r (padded 4 (n % 10000)) → blockOf z (r + 4) ≡ put d at (decimal n)
   joined-four z f =
       let second : blockOf z (r + 4) ≡ put y r (padded 4 (n % 10000)) =
-          ap (λ (x : List ℕ). blockOf x (r + 4)) f ∙ sym (fits y r (padded 4 (n % 10000)) (omega (arith, four-fit))) in
+      ap (λ (x : List ℕ). blockOf x (r + 4)) f ∙ sym (fits y r (padded 4 (n % 10000)) (omega (arith, four-fit))) in
       then d y z (decimal (n / 10000)) (padded 4 (n % 10000)) at r (r + 4) (omega (arith, short)) e second
       ∙ ap (put d at) (four-behind n some few)
