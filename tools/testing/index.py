@@ -1,10 +1,13 @@
 """c7index and c7at through tools/run, and tools/jump: the index to the byte, grown and made afresh, and killed at any moment."""
+import contextlib
 import ctypes
 import os
 import platform
+import pty
 import resource
 import shutil
 import signal
+import subprocess
 import tempfile
 import unittest
 
@@ -120,6 +123,30 @@ class Index(trial.Case):
                 self.afresh(whole[:cut])
                 self.works(self.grow(whole))
                 self.assertEqual(self.got(), wanted)
+
+    def grown_on_a_terminal(self):
+        """Status and what a terminal shows, where standard error is one."""
+        here, there = pty.openpty()
+        words = trial.words_of("run", "c7index", self.recording, self.index)
+        with subprocess.Popen(words, stderr=there, start_new_session=True) as running, trial.ends_in(trial.LIMIT, running):
+            os.close(there)
+            shown = b""
+            with contextlib.suppress(OSError):  # nobody has the other side open any more
+                while True:
+                    shown += os.read(here, 1 << 16)
+        os.close(here)
+        return running.returncode, shown
+
+    def test_progress_on_a_terminal(self):
+        """A run of more lines than one block of output holds; what went wrong is still told, and the status."""
+        many = RECORDING + RECORDING[13:] * 2500
+        self.put(self.recording, many)
+        status, shown = self.grown_on_a_terminal()
+        self.assertEqual((status, shown.replace(b"read so far: 0 MiB\r", b"")), (0, b""))
+        self.assertIn(b"read so far: 0 MiB\r", shown)
+        self.assertEqual(self.got(), self.afresh(many))
+        self.put(self.recording, many[:-30])
+        self.assertEqual(self.grown_on_a_terminal(), (1, b"c7index: refused 23\r\n"))
 
     def test_refusals(self):
         self.afresh(RECORDING)

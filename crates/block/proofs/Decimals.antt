@@ -11,7 +11,7 @@ use native.Mathlib.Omega.{arith}
 use borrow.Author.Tests.{lt-ltb, le-ltb}
 use lib.ListN.{getD}
 use Rattle.block.specs.Block.{placed}
-use Rattle.block.specs.Decimal.{decimalIn, decimal}
+use Rattle.block.specs.Decimal.{decimalIn, decimal, padded}
 
 -- ---- the definition's two cases
 
@@ -28,10 +28,10 @@ some j n = go (ltb n 10)
     go true = omega arith
     go false = rw length-append (omega arith)
 
-fewer : (j n : ℕ) → n < 10 ^ suc (suc j) → n / 10 < 10 ^ suc j
+pub fewer : (j n : ℕ) → n < 10 ^ suc (suc j) → n / 10 < 10 ^ suc j
 fewer j n h = let most : n < 10 ^ suc j * 10 = rw (← pow-suc) h in div-lt-iff-lt-mul {k = 10} (omega arith) .1 most
 
-digits-most : (k n : ℕ) → length (decimalIn k n) ≤ k
+pub digits-most : (k n : ℕ) → length (decimalIn k n) ≤ k
 digits-most zero n = omega arith
 digits-most (suc k) n = go (ltb n 10) (digits-most k (n / 10))
   where
@@ -47,6 +47,13 @@ decimal-most n = digits-most 20 n
 pub decimal-some : (n : ℕ) → 1 ≤ length (decimal n)
 unfolding decimal
 decimal-some n = some 19 n
+
+pub padded-long : (k n : ℕ) → length (padded k n) ≡ k
+padded-long zero n = refl
+padded-long (suc k) n = length-append (padded k (n / 10)) ((48 + n % 10) ∷ []) ∙ sums (length (padded k (n / 10))) k (padded-long k (n / 10))
+  where
+    sums : (a b : ℕ) → a ≡ b → a + 1 ≡ suc b
+    sums a b e = omega arith
 
 -- ---- counted: k digits are counted, and those of rest are not
 

@@ -1,11 +1,13 @@
 -- What is put in two goes is put in one: so a line is put piece by piece. Assumes nothing.
 use Prim.Native.Nat.{ℕ, _+_, _-_, _≤_, _<_, min}
-use mathlib.Core.Path.{_≡_, ap, sym, _∙_}
-use mathlib.Core.List.{List, _++_, append-assoc, append-nil}
+use mathlib.Core.Path.{_≡_, refl, ap, ap₂, sym, _∙_}
+use mathlib.Core.Bool.{Bool, true, false, cond}
+use mathlib.Core.List.{List, [], _++_, append-assoc, append-nil}
 use native.Mathlib.Omega.{arith}
 use borrow.Author.Tests.{le-leb, lt-leb}
 use borrow.Rule.Slice.PartMut.{putMid, post-is}
-use lib.ListN.{length, take, drop, length-append, length-drop, drop-of-length-le}
+use lib.Dec.{leb}
+use lib.ListN.{length, take, drop, length-append, length-drop, drop-of-length-le, take-append-drop}
 use lib.Seq.{take-length, length-take-le, take-at, drop-drop, drop-append-add}
 use Rattle.queue.specs.Ring.{copied}
 use Rattle.block.specs.Block.{Block, placed, put}
@@ -88,3 +90,27 @@ module _ (d : List ℕ) (n : ℕ) (s t : List ℕ) (h : n + length s + length t 
 pub then : (d y z s t : List ℕ) (n r q : ℕ) → n + length s + length t ≤ length d → blockOf y r ≡ put d n s → blockOf z q ≡ put y r t → blockOf z q ≡ put d n (s ++ t)
 then d y z s t n r q h first second =
     second ∙ ap (λ (k : Block). put (k .bytes) (k .at) t) (first ∙ fits d n s (omega arith)) ∙ joined d n s t h
+
+-- so much more has room behind what was put
+pub room : (d y s : List ℕ) (n r k : ℕ) → blockOf y r ≡ put d n s → n + length s + k ≤ length d → r + k ≤ length y
+room d y s n r k e h =
+    let fit : n + length s ≤ length d = omega arith in
+    let both : blockOf y r ≡ blockOf (placed d n s) (n + length s) = e ∙ fits d n s fit in
+    let at : r ≡ n + length s = ap (λ (b : Block). b .at) both in
+    let long : length y ≡ length d = ap (λ (b : Block). length (b .bytes)) both ∙ length-placed d n s fit in
+    omega arith
+
+-- nothing put
+pub nothing : (d : List ℕ) (at : ℕ) → blockOf d at ≡ put d at []
+unfolding put
+nothing d at = sym (go (leb (at + 0) (length d)))
+  where
+    stays : at + 0 ≡ at
+    stays = omega arith
+
+    same : take at d ++ [] ++ drop (at + 0) d ≡ d
+    same = ap (λ (k : ℕ). take at d ++ [] ++ drop k d) stays ∙ ap (λ (x : List ℕ). x ++ drop at d) (append-nil (take at d)) ∙ take-append-drop at d
+
+    go : (t : Bool) → cond t (blockOf (take at d ++ [] ++ drop (at + 0) d) (at + 0)) (blockOf d at) ≡ blockOf d at
+    go true = ap₂ (λ (x : List ℕ) (k : ℕ). blockOf x k) same stays
+    go false = refl

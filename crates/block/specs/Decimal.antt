@@ -12,3 +12,8 @@ decimalIn (suc k) n = cond (ltb n 10) ((48 + n) ∷ []) (decimalIn k (n / 10) ++
 -- a number of 64 bits has at most 20
 unfoldable pub decimal : ℕ → List ℕ
 decimal n = decimalIn 20 n
+
+-- the last k decimal digits of a number
+abbrev pub padded : ℕ → ℕ → List ℕ
+padded zero n = []
+padded (suc k) n = padded k (n / 10) ++ (48 + n % 10) ∷ []

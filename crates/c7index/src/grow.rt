@@ -53,15 +53,15 @@ fn commit(fd: i32, top: Top) {
     console::say(b"c7index", b"cannot write the index\n");
 }
 
-// How far a long run is, where standard error is a terminal.
+// How far a long run is, where standard error is a terminal; what is said next takes its place.
 fn show(done: u64) {
     if libc::isatty(STDERR_FILENO) != 1 {
         return;
     }
     let mut line = [0u8; 64];
-    let mut at = block::put(&mut line, 0, b"\rread so far: ");
+    let mut at = block::put(&mut line, 0, b"read so far: ");
     at = block::put_number(&mut line, at, done / 1048576);
-    at = block::put(&mut line, at, b" MiB ");
+    at = block::put(&mut line, at, b" MiB\r");
     at = queue::least(at, 64);
     io::write_all(STDERR_FILENO, &line[0..at]);
 }
@@ -113,7 +113,15 @@ fn onward(
     let mut walk = first;
     let mut left = BLOCKS;
     while 0 < left {
-        walk = index_loop::advance(recording, Task::List(covered), FULL, walk, block, room, out);
+        walk = index_loop::advance(
+            recording,
+            Task::Index(covered),
+            FULL,
+            walk,
+            block,
+            room,
+            out,
+        );
         let at = queue::least(walk.at, out.len());
         if !files::write_at(fd, size, &out[0..at]) {
             console::say(b"c7index", b"cannot write the index\n");

@@ -4,7 +4,8 @@ ghost use mathlib.Core.Path.{_≡_};
 ghost use Prim.Native.Nat.{_+_, _<_};
 ghost use lib.ListN.{length};
 ghost use Rattle.receiver.specs.State.{Able};
-ghost use Rattle.index_loop.specs.Walking.{Onward, Ready, Ahead, Lies, Walked};
+ghost use Rattle.block.specs.Block.{put as Block·put};
+ghost use Rattle.index_loop.specs.Walking.{textOf, Found, Onward, Ready, Ahead, Lies, Walked};
 use console::Unread;
 use files::Got;
 use house::AtHand;
@@ -12,9 +13,10 @@ use house::Fault;
 use house::Place;
 use house::Record;
 use jumping::Wanted;
+use receiver::Find;
+use receiver::Place as Began;
 use receiver::Receiver;
 use receiver::Stamp;
-use receiver::Step;
 
 // No TP has so many finds, and no input block so many records: a loop over them ends for this. One that it cut short would go on
 // at the same place.
@@ -27,7 +29,7 @@ const BLOCKS: u64 = 512;
 
 // What is put for a find: its line, where its record is not covered; or its record, if it is the packet asked for.
 pub enum Task {
-    List(u64),
+    Index(u64),
     Seek(Wanted),
 }
 
@@ -70,21 +72,25 @@ pub struct Walk {
     pub stop: Stop,
 }
 
-fn behind(step: Step, at: usize) -> Went
-    requires { ⌜ Able (step .receiver) ⌝ }
-    ensures { λ w. ⌜ Able (w .receiver) ⌝ }
+// Puts what the task asks for of a find of the record with this number.
+fn put(
+    task: Task,
+    number: u64,
+    began: Began,
+    find: Find,
+    data: &[u8],
+    out: &mut [u8],
+    at: usize,
+) -> usize
+    ensures { λ r. ⌜ record { bytes = now (out .exit); at = r } ≡ Block·put (now (out .entry)) at (textOf task number began find (now («data» .entry))) ⌝ }
 {
-    let receiver = step.receiver;
-    let find = step.find;
-    let lasts = receiver::lasts(find);
-    Went {
-        receiver,
-        at,
-        lasts,
+    match task {
+        Task::Index(covered) => indexing::put_new(covered, number, began, find, out, at),
+        Task::Seek(wanted) => jumping::put_wanted(wanted, began, find, data, out, at),
     }
 }
 
-// One find.
+// One find. The receiver is called at this one place for both tasks, so that the compiler makes one function of the call and the loops.
 fn find(
     task: Task,
     r: Receiver,
@@ -95,19 +101,19 @@ fn find(
     at: usize,
 ) -> Went
     requires { ⌜ Able r ⌝ }
-    ensures { λ w. ⌜ Able (w .receiver) ⌝ }
+    ensures { λ w. ⌜ Found task r stamp (now (tp .entry)) (now (room .entry)) (now (out .entry)) at w (now (room .exit)) (now (out .exit)) ⌝ }
 {
-    match task {
-        Task::List(covered) => {
-            let indexed = indexing::step(r, stamp, covered, tp, room, out, at);
-            let step = indexed.step;
-            behind(step, indexed.at)
-        }
-        Task::Seek(wanted) => {
-            let wrote = jumping::step(r, stamp, wanted, tp, room, out, at);
-            let step = wrote.step;
-            behind(step, wrote.at)
-        }
+    let step = receiver::next_as(r, stamp, tp, room);
+    let receiver = step.receiver;
+    let find = step.find;
+    let began = step.about.at;
+    let data = receiver::found(tp, room, find);
+    let held = put(task, stamp.number, began, find, data, out, at);
+    let lasts = receiver::lasts(find);
+    Went {
+        receiver,
+        at: held,
+        lasts,
     }
 }
 

@@ -19,7 +19,8 @@ use Rattle.receiver.specs.Tp.{Setting, Input}
 use Rattle.receiver.proofs.Facts.{wired}
 use Rattle.indexed.specs.Index.{startStamp, behind, behindAll, fresh, recordOf, standAt}
 use Rattle.indexed.specs.Packets.{Packet, handed, chosen, first, All, Rising}
-use Rattle.indexed.specs.Statements.{handedAll, handedOut, sameSort, startedAt, atOrAfter, FromLine}
+use Rattle.indexing.specs.Lines.{atOrAfter}
+use Rattle.indexed.specs.Statements.{handedAll, handedOut, sameSort, startedAt, FromLine}
 use Rattle.indexed.proofs.Lists.{chosen-append, none-chosen, all-append, all-left, all-right, all-map, all-of-map, rising-before, chosen-twice, chosen-swap}
 use Rattle.indexed.proofs.Sub.{all-sub}
 use Rattle.indexed.proofs.Ways as W

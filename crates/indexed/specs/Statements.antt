@@ -2,17 +2,16 @@
 use Prim.Native.Nat.{ℕ, _-_, _<_}
 use mathlib.Core.Path.{_≡_}
 use mathlib.Core.Logic.{_⊎_}
-use mathlib.Core.Bool.{Bool, true, false, cond, not, _&&_}
+use mathlib.Core.Bool.{Bool, true, false, not, _&&_}
 use mathlib.Core.Option.{some}
 use mathlib.Core.List.{List, [], _∷_, _++_, map}
-use lib.Dec.{eqb, leb, ltb}
 use lib.ListN.{take, drop}
 use Rattle.receiver.specs.declared.Stamp.{Stamp}
 use Rattle.receiver.specs.declared.Place.{Place}
 use Rattle.receiver.specs.Join.{held}
 use Rattle.receiver.specs.Low.{Tag, wire}
 use Rattle.receiver.specs.Tp.{Setting, Stand, Input}
-use Rattle.indexing.specs.Lines.{Line}
+use Rattle.indexing.specs.Lines.{Line, atOrAfter}
 use Rattle.indexed.specs.Index.{startStamp, behind, behindAll, fresh, lineOf, recordOf, standAt, underWay, indexOf, growOf}
 use Rattle.indexed.specs.Packets.{Packet, handed, chosen, first, Rising}
 
@@ -69,10 +68,6 @@ Rises = (s : Setting) (xs : List Input) (is-low : Bool) → Rising Before (ofSor
 -- "a receiver started at that record": what it hands out
 abbrev pub startedAt : Setting → List Input → ℕ → List (Packet wire)
 startedAt s xs k = handedAll s (behindAll startStamp (take (k - 1) xs)) fresh (drop (k - 1) xs)
-
--- "at or after that place": record n, place j, seen from record k, place i
-abbrev pub atOrAfter : ℕ → ℕ → ℕ → ℕ → Bool
-atOrAfter k i n j = cond (eqb n k) (leb i j) (ltb k n)
 
 -- "of its sort begun at or after that place"
 abbrev pub sought : Line → Packet wire → Bool

@@ -1,8 +1,8 @@
--- A line put piece by piece into a block with room for it is the line; and where the block was a text of its own, its start is the
--- line. Assumes nothing.
+-- A packet's line is its record and a listing's line; put piece by piece into a block with room for it, it is the line; and where the
+-- block was a text of its own, its start is the line. Assumes nothing.
 use Prim.Native.Nat.{ℕ, _+_, _-_, _≤_, _<_}
-use mathlib.Core.Path.{_≡_, ap, sym, _∙_}
-use mathlib.Core.Bool.{Bool, cond}
+use mathlib.Core.Path.{_≡_, refl, ap, sym, _∙_}
+use mathlib.Core.Bool.{Bool, true, false, cond}
 use mathlib.Core.List.{List, [], _∷_, _++_, append-assoc}
 use native.Mathlib.Omega.{arith}
 use lib.ListN.{length, take, drop, length-append}
@@ -10,88 +10,58 @@ use lib.Seq.{take-append-seam}
 use borrow.Author.Tests.{lt-ltb, le-ltb}
 use Rattle.block.specs.Block.{Block, placed, put}
 use Rattle.block.specs.Decimal.{decimal}
-use Rattle.block.proofs.Laws.{fits, length-placed, then, blockOf}
+use Rattle.block.proofs.Laws.{fits, then, blockOf, room}
 use Rattle.block.proofs.Decimals.{decimal-most}
-use Rattle.listing.specs.Lines.{lowWord, ordinaryWord}
-use Rattle.line_zero.proofs.Laws.{room, nothing}
+use Rattle.listing.specs.Lines.{lowWord, ordinaryWord, lineOf, lineWith as Listing·lineWith}
+use Rattle.listing.proofs.Laws.{line-most}
 use Rattle.receiver.specs.declared.Find.{Find}
 use Rattle.receiver.specs.declared.Find.the-variants.{Nothing, Refused, Notice, Low, Ordinary}
 use Rattle.receiver.specs.declared.Place.{Place}
-use Rattle.indexing.specs.Lines.{lineWith, findText, newText}
+use Rattle.indexing.specs.Lines.{lineWith, findText, isPacket, packetText, newText}
 
--- ---- two numbers
+-- ---- a packet's line
 
-abbrev pub duo : ℕ → ℕ → List ℕ
-duo a b = decimal a ++ (32 ∷ []) ++ decimal b
+line-is : (r p : ℕ) (w : List ℕ) (c n : ℕ) → lineWith r p w c n ≡ decimal r ++ (32 ∷ []) ++ Listing·lineWith p w c n
+unfolding lineWith Listing·lineWith
+line-is r p w c n = simp append-assoc
 
-duo-most : (a b : ℕ) → length (duo a b) ≤ 41
-duo-most a b = simp length-append (omega (arith, decimal-most a, decimal-most b))
+-- only a packet has one
+chosen : (p : Place) (f : Find) → findText p f ≡ cond (isPacket f) (packetText p f) []
+chosen p Nothing = refl
+chosen p Refused = refl
+chosen p (Notice k) = refl
+chosen p (Low c start n) = line-is (p .stamp .number) (p .at) lowWord c n
+chosen p (Ordinary c n) = line-is (p .stamp .number) (p .at) ordinaryWord c n
 
-pub duo-put : (d : List ℕ) (at a b : ℕ) → at + 41 ≤ length d → (y₁ y₂ y₃ : List ℕ) (r₁ r₂ r₃ : ℕ)
-    → blockOf y₁ r₁ ≡ put d at (decimal a)
+pub no-line : (p : Place) (f : Find) → isPacket f ≡ false → findText p f ≡ []
+no-line p f e = chosen p f ∙ ap (λ (b : Bool). cond b (packetText p f) []) e
+
+pub its-line : (p : Place) (f : Find) → isPacket f ≡ true → packetText p f ≡ findText p f
+its-line p f e = sym (chosen p f ∙ ap (λ (b : Bool). cond b (packetText p f) []) e)
+
+packet-most : (p : Place) (f : Find) → length (packetText p f) ≤ 101
+packet-most p f = simp length-append (omega (arith, decimal-most (p .stamp .number), line-most (p .at) f))
+
+pub spelled : (d : List ℕ) (at : ℕ) (p : Place) (f : Find) → at + 101 ≤ length d → (y₁ y₂ y₃ : List ℕ) (r₁ r₂ r₃ : ℕ)
+    → blockOf y₁ r₁ ≡ put d at (decimal (p .stamp .number))
     → blockOf y₂ r₂ ≡ put y₁ r₁ (32 ∷ [])
-    → blockOf y₃ r₃ ≡ put y₂ r₂ (decimal b)
-    → blockOf y₃ r₃ ≡ put d at (duo a b)
-duo-put d at a b h y₁ y₂ y₃ r₁ r₂ r₃ e₁ e₂ e₃ =
-    let p = decimal-most a in
-    let q = decimal-most b in
-    let e₁₂ = then d y₁ y₂ (decimal a) (32 ∷ []) at r₁ r₂ (omega arith) e₁ e₂ in
-    then d y₂ y₃ (decimal a ++ (32 ∷ [])) (decimal b) at r₂ r₃ (simp length-append (omega arith)) e₁₂ e₃
-
--- ---- a line
-
-module _ (k p : ℕ) (w : List ℕ) (short : length w ≤ 10) where
-  start-most : length (duo k p ++ w) ≤ 51
-  start-most = omega (arith, length-append (duo k p) w, duo-most k p)
-
-  module _ (c n : ℕ) where
-    line-is : duo k p ++ w ++ duo c n ++ (10 ∷ []) ≡ lineWith k p w c n
-    unfolding lineWith
-    line-is = simp append-assoc
-
-    whole-most : length (duo k p ++ w ++ duo c n) ≤ 92
-    whole-most = omega (arith, length-append (duo k p ++ w) (duo c n), start-most, duo-most c n)
-
-    line-long : length (lineWith k p w c n) ≤ 100
-    line-long = omega (arith, ap length line-is, length-append (duo k p ++ w ++ duo c n) (10 ∷ []), whole-most)
-
-  module _ (d : List ℕ) (at : ℕ) (h : at + 100 ≤ length d) (y₁ y₂ : List ℕ) (r₁ r₂ : ℕ)
-      (e₁ : blockOf y₁ r₁ ≡ put d at (duo k p)) (e₂ : blockOf y₂ r₂ ≡ put y₁ r₁ w) where
-    started : blockOf y₂ r₂ ≡ put d at (duo k p ++ w)
-    started = then d y₁ y₂ (duo k p) w at r₁ r₂ (omega (arith, duo-most k p)) e₁ e₂
-
-    pub free : r₂ + 41 ≤ length y₂
-    free = room d y₂ (duo k p ++ w) at r₂ 41 started (omega (arith, start-most))
-
-    pub line-put : (c n : ℕ) (y₃ y₄ : List ℕ) (r₃ r₄ : ℕ) → blockOf y₃ r₃ ≡ put y₂ r₂ (duo c n) → blockOf y₄ r₄ ≡ put y₃ r₃ (10 ∷ [])
-        → blockOf y₄ r₄ ≡ put d at (lineWith k p w c n)
-    line-put c n y₃ y₄ r₃ r₄ e₃ e₄ =
-        let e₁₃ = then d y₂ y₃ (duo k p ++ w) (duo c n) at r₂ r₃ (omega (arith, start-most, duo-most c n)) started e₃ in
-        then d y₃ y₄ (duo k p ++ w ++ duo c n) (10 ∷ []) at r₃ r₄ (omega (arith, whole-most c n)) e₁₃ e₄ ∙ ap (put d at) (line-is c n)
-
--- ---- no line
-
-pub nothing-for : (d : List ℕ) (at : ℕ) (p : Place) (f g : Find) → f ≡ g → findText p g ≡ [] → blockOf d at ≡ put d at (findText p f)
-nothing-for d at p f g is none = nothing d at ∙ ap (put d at) (sym (ap (findText p) is ∙ none))
-
--- ---- a find's line
-
-find-long : (p : Place) (f : Find) → length (findText p f) ≤ 100
-find-long p Nothing = omega arith
-find-long p Refused = omega arith
-find-long p (Notice k) = omega arith
-find-long p (Low c start n) = line-long (p .stamp .number) (p .at) lowWord (omega arith) c n
-find-long p (Ordinary c n) = line-long (p .stamp .number) (p .at) ordinaryWord (omega arith) c n
+    → blockOf y₃ r₃ ≡ put y₂ r₂ (lineOf (p .at) f)
+    → blockOf y₃ r₃ ≡ put d at (packetText p f)
+spelled d at p f h y₁ y₂ y₃ r₁ r₂ r₃ e₁ e₂ e₃ =
+    let record-most = decimal-most (p .stamp .number) in
+    let rest-most = line-most (p .at) f in
+    let e₁₂ = then d y₁ y₂ (decimal (p .stamp .number)) (32 ∷ []) at r₁ r₂ (omega (arith, record-most)) e₁ e₂ in
+    then d y₂ y₃ (decimal (p .stamp .number) ++ (32 ∷ [])) (lineOf (p .at) f) at r₂ r₃ (simp length-append (omega (arith, record-most, rest-most))) e₁₂ e₃
 
 -- a text of its own holds it from its first byte on
-module _ (d : List ℕ) (long : 100 ≤ length d) (p : Place) (f : Find) (y : List ℕ) (r : ℕ) (e : blockOf y r ≡ put d 0 (findText p f)) where
+module _ (d : List ℕ) (long : 101 ≤ length d) (p : Place) (f : Find) (y : List ℕ) (r : ℕ) (e : blockOf y r ≡ put d 0 (packetText p f)) where
   pub within : r ≤ length y
-  within = omega (arith, room d y (findText p f) 0 r 0 e (omega (arith, find-long p f)))
+  within = omega (arith, room d y (packetText p f) 0 r 0 e (omega (arith, packet-most p f)))
 
-  pub cut : take (r - 0) y ≡ findText p f
+  pub cut : take (r - 0) y ≡ packetText p f
   cut =
-      let s : List ℕ = findText p f in
-      let fit : 0 + length s ≤ length d = omega (arith, find-long p f) in
+      let s : List ℕ = packetText p f in
+      let fit : 0 + length s ≤ length d = omega (arith, packet-most p f) in
       let both : blockOf y r ≡ blockOf (placed d 0 s) (0 + length s) = e ∙ fits d 0 s fit in
       let size : r - 0 ≡ length s = omega (arith, ap (λ (b : Block). b .at) both) in
       ap (λ (k : ℕ). take k y) size ∙ ap (λ (b : Block). take (length s) (b .bytes)) both ∙ take-append-seam s (drop (0 + length s) d)

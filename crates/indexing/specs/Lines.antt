@@ -3,9 +3,9 @@
 use Prim.Native.Nat.{ℕ}
 use mathlib.Core.Bool.{Bool, true, false, cond}
 use mathlib.Core.List.{List, [], _∷_, _++_}
-use lib.Dec.{ltb}
+use lib.Dec.{eqb, leb, ltb}
 use Rattle.block.specs.Decimal.{decimal}
-use Rattle.listing.specs.Lines.{lowWord, ordinaryWord}
+use Rattle.listing.specs.Lines.{lowWord, ordinaryWord, lineOf}
 use Rattle.receiver.specs.declared.Find.{Find}
 use Rattle.receiver.specs.declared.Find.the-variants.{Nothing, Refused, Notice, Low, Ordinary}
 use Rattle.receiver.specs.declared.Place.{Place}
@@ -29,6 +29,10 @@ sortWord false = ordinaryWord
 abbrev pub lineText : Line → List ℕ
 lineText l = lineWith (l .begun) (l .place) (sortWord (l .is-low)) (l .content) (l .bytes)
 
+-- "at or after that place": record n, place j, seen from record k, place i
+abbrev pub atOrAfter : ℕ → ℕ → ℕ → ℕ → Bool
+atOrAfter k i n j = cond (eqb n k) (leb i j) (ltb k n)
+
 -- the line of a find that began at this place; only packets have one
 abbrev pub findText : Place → Find → List ℕ
 findText p Nothing = []
@@ -36,6 +40,17 @@ findText p Refused = []
 findText p (Notice k) = []
 findText p (Low c start n) = lineWith (p .stamp .number) (p .at) lowWord c n
 findText p (Ordinary c n) = lineWith (p .stamp .number) (p .at) ordinaryWord c n
+
+abbrev pub isPacket : Find → Bool
+isPacket Nothing = false
+isPacket Refused = false
+isPacket (Notice k) = false
+isPacket (Low c start n) = true
+isPacket (Ordinary c n) = true
+
+-- a packet's line is its record and what a listing says behind a TP's number, here the place
+abbrev pub packetText : Place → Find → List ℕ
+packetText p f = decimal (p .stamp .number) ++ (0x20 ∷ []) ++ lineOf (p .at) f
 
 -- "lists nothing twice": a covered record is only read again
 abbrev pub newText : ℕ → ℕ → Place → Find → List ℕ

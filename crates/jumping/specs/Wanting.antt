@@ -2,16 +2,16 @@
 use Prim.Native.Nat.{ℕ}
 use mathlib.Core.Bool.{Bool, true, false, cond, not, _&&_}
 use mathlib.Core.List.{List, []}
-use lib.Dec.{eqb, leb, ltb}
+use Rattle.indexing.specs.Lines.{atOrAfter}
 use Rattle.reading.specs.Packets.{packetOf}
 use Rattle.receiver.specs.declared.Find.{Find}
 use Rattle.receiver.specs.declared.Find.the-variants.{Nothing, Refused, Notice, Low, Ordinary}
 use Rattle.receiver.specs.declared.Place.{Place}
 use Rattle.jumping.specs.declared.Wanted.{Wanted}
 
--- "begun at or after that place", by record first
+-- "begun at or after that place"
 abbrev pub begunThere : Wanted → Place → Bool
-begunThere w p = cond (eqb (p .stamp .number) (w .record)) (leb (w .place) (p .at)) (ltb (w .record) (p .stamp .number))
+begunThere w p = atOrAfter (w .record) (w .place) (p .stamp .number) (p .at)
 
 -- "of its sort"
 abbrev pub isSort : Bool → Find → Bool

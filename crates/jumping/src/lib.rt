@@ -1,14 +1,9 @@
-// One call of the receiver with the record of its find, if that is the packet asked for: what a line of an index is for (R-8).
+// The record of a find, if that is the packet asked for: what a line of an index is for (R-8).
 ghost use mathlib.Core.Path.{_≡_};
 ghost use Rattle.block.specs.Block.{put};
-ghost use Rattle.receiver.specs.State.{Able};
-ghost use Rattle.receiver.specs.Call.{callAs, always, dataOf, Gives};
 ghost use Rattle.jumping.specs.Wanting.{begunThere, isSort, isWanted, wantedOf};
-use reading::Wrote;
 use receiver::Find;
 use receiver::Place;
-use receiver::Receiver;
-use receiver::Stamp;
 
 // A packet is asked for by its sort and by the record and place at which, or behind which, it began.
 pub struct Wanted {
@@ -54,26 +49,19 @@ pub fn is_wanted(wanted: Wanted, began: Place, find: Find) -> bool
     began_there(wanted, began)
 }
 
-// Asks for the next find of a TP, and puts its record if it is the packet asked for.
-pub fn step(
-    r: Receiver,
-    stamp: Stamp,
+// Puts the record of a find that began at this place, with this data, if it is the packet asked for.
+pub fn put_wanted(
     wanted: Wanted,
-    tp: &[u8],
-    room: &mut [u8],
+    began: Place,
+    find: Find,
+    data: &[u8],
     out: &mut [u8],
     at: usize,
-) -> Wrote
-    requires { ⌜ Able r ⌝ }
-    ensures { λ q. ⌜ Gives (callAs r (always stamp) (now (tp .entry)) (now (room .entry))) (q .step) (now (tp .entry)) (now (room .exit)) ⌝ }
-    ensures { λ q. ⌜ record { bytes = now (out .exit); at = q .at } ≡ put (now (out .entry)) at (wantedOf wanted (q .step .about .at) (q .step .find) (dataOf (q .step .find) (now (tp .entry)) (now (room .exit)))) ⌝ }
+) -> usize
+    ensures { λ r. ⌜ record { bytes = now (out .exit); at = r } ≡ put (now (out .entry)) at (wantedOf wanted began find (now («data» .entry))) ⌝ }
 {
-    let step = receiver::next_as(r, stamp, tp, room);
-    let find = step.find;
-    let began = step.about.at;
     if !is_wanted(wanted, began, find) {
-        return Wrote { step, at };
+        return at;
     }
-    let held = reading::packet(find, receiver::found(tp, room, find), out, at);
-    Wrote { step, at: held }
+    reading::packet(find, data, out, at)
 }

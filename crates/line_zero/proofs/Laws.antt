@@ -11,11 +11,13 @@ use lib.ListN.{length, take, drop, set, getD, length-append, length-set, length-
 use lib.Seq.{length-take-le, take-all, take-at, drop-at, drop-drop, drop-append-add, drop-cons, take-suc, set-split}
 use borrow.Author.Tests.{le-leb, lt-leb, eq-eqb, ne-eqb}
 use Rattle.block.specs.Block.{Block, placed, put}
-use Rattle.block.proofs.Laws.{fits, length-placed, then, blockOf}
+use Rattle.block.specs.Decimal.{padded}
+use Rattle.block.proofs.Laws.{fits, then, blockOf, room}
+use Rattle.block.proofs.Decimals.{padded-long}
 use Rattle.line_zero.specs.declared.Top.{Top}
 use Rattle.line_zero.specs.declared.Reads.{Reads}
 use Rattle.line_zero.specs.declared.Reads.the-variants.{NoIndex, Says}
-use Rattle.line_zero.specs.Top.{padded, digits20, coveredWord, sinceWord, endWord, fromWord, sizeWord, field, topText, digitOf, valueOf, held, numberAt, numbersIn, equal, topIn, Small}
+use Rattle.line_zero.specs.Top.{digits20, coveredWord, sinceWord, endWord, fromWord, sizeWord, field, topText, digitOf, valueOf, held, numberAt, numbersIn, equal, topIn, Small}
 
 -- ---- digits written from the last one on: those behind index i are there, those of rest are not
 
@@ -140,13 +142,6 @@ value-back (suc k) n h =
     whole : (n : ℕ) → n / 10 * 10 + n % 10 ≡ n
     whole n = omega arith
 
-pub padded-long : (k n : ℕ) → length (padded k n) ≡ k
-padded-long zero n = refl
-padded-long (suc k) n = length-append (padded k (n / 10)) ((48 + n % 10) ∷ []) ∙ sums (length (padded k (n / 10))) k (padded-long k (n / 10))
-  where
-    sums : (a b : ℕ) → a ≡ b → a + 1 ≡ suc b
-    sums a b e = omega arith
-
 pub twenty-long : (n : ℕ) → length (digits20 n) ≡ 20
 unfolding digits20
 twenty-long n = padded-long 20 n
@@ -263,30 +258,6 @@ piece-long w n = length-append w (digits20 n) ∙ ap (λ (k : ℕ). length w + k
 
 onto : (a w : List ℕ) (n : ℕ) (rest : List ℕ) → a ++ piece w n ++ rest ≡ a ++ field w n rest
 onto a w n rest = append-assoc a (piece w n) rest ∙ ap (λ (x : List ℕ). a ++ x) (append-assoc w (digits20 n) rest)
-
--- so much more has room behind what was put
-pub room : (d y s : List ℕ) (n r k : ℕ) → blockOf y r ≡ put d n s → n + length s + k ≤ length d → r + k ≤ length y
-room d y s n r k e h =
-    let fit : n + length s ≤ length d = omega arith in
-    let both : blockOf y r ≡ blockOf (placed d n s) (n + length s) = e ∙ fits d n s fit in
-    let at : r ≡ n + length s = ap (λ (b : Block). b .at) both in
-    let long : length y ≡ length d = ap (λ (b : Block). length (b .bytes)) both ∙ length-placed d n s fit in
-    omega arith
-
--- nothing put
-pub nothing : (d : List ℕ) (at : ℕ) → blockOf d at ≡ put d at []
-unfolding put
-nothing d at = sym (go (leb (at + 0) (length d)))
-  where
-    stays : at + 0 ≡ at
-    stays = omega arith
-
-    same : take at d ++ [] ++ drop (at + 0) d ≡ d
-    same = ap (λ (k : ℕ). take at d ++ [] ++ drop k d) stays ∙ ap (λ (x : List ℕ). x ++ drop at d) (append-nil (take at d)) ∙ take-append-drop at d
-
-    go : (t : Bool) → cond t (blockOf (take at d ++ [] ++ drop (at + 0) d) (at + 0)) (blockOf d at) ≡ blockOf d at
-    go true = ap₂ (λ (x : List ℕ) (k : ℕ). blockOf x k) same stays
-    go false = refl
 
 -- where it is full, it is what was put
 pub filled : (d s y : List ℕ) (r : ℕ) → blockOf y r ≡ put d 0 s → length s ≡ length d → y ≡ s

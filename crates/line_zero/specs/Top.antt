@@ -1,19 +1,15 @@
 -- Line 0 of an index (R-8): "Line 0 states how many records are covered and at which record the unfinished EP or held series (the
 -- older, if any) began". It says beside that where in the files to go on, and has always 133 bytes. Assumes nothing.
-use Prim.Native.Nat.{ℕ, zero, suc, _+_, _*_, _/_, _%_, _<_}
+use Prim.Native.Nat.{ℕ, _+_, _*_, _%_, _<_}
 use mathlib.Core.Bool.{Bool, true, false, cond, _&&_}
 use mathlib.Core.Option.{Option, none, some}
 use mathlib.Core.List.{List, [], _∷_, _++_}
 use lib.Dec.{eqb, leb}
 use lib.ListN.{take, drop}
+use Rattle.block.specs.Decimal.{padded}
 use Rattle.line_zero.specs.declared.Top.{Top}
 use Rattle.line_zero.specs.declared.Reads.{Reads}
 use Rattle.line_zero.specs.declared.Reads.the-variants.{NoIndex, Says}
-
--- the last k decimal digits of a number, in ASCII
-abbrev pub padded : ℕ → ℕ → List ℕ
-padded zero n = []
-padded (suc k) n = padded k (n / 10) ++ (48 + n % 10) ∷ []
 
 unfoldable pub digits20 : ℕ → List ℕ
 digits20 n = padded 20 n

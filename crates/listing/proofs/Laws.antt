@@ -3,9 +3,9 @@
 use Prim.Native.Nat.{ℕ, _+_, _-_, _≤_, _<_}
 use mathlib.Core.Path.{_≡_, ap, sym, subst, _∙_}
 use mathlib.Core.Bool.{Bool, true, cond}
-use mathlib.Core.List.{List, [], _∷_, _++_, append-assoc, append-nil}
+use mathlib.Core.List.{List, [], _∷_, _++_, append-assoc}
 use native.Mathlib.Omega.{arith}
-use lib.ListN.{length, take, drop, length-append, take-append-drop}
+use lib.ListN.{length, take, drop, length-append}
 use lib.Seq.{take-append-seam}
 use Rattle.block.specs.Block.{Block, placed, put}
 use Rattle.block.specs.Decimal.{decimal}
@@ -81,22 +81,12 @@ module _ (t : ℕ) (w : List ℕ) (short : length w ≤ 10) where
 
 -- ---- the line of a find
 
-line-most : (t : ℕ) (f : Find) → length (lineOf t f) ≤ 80
+pub line-most : (t : ℕ) (f : Find) → length (lineOf t f) ≤ 80
 line-most t Nothing = omega arith
 line-most t Refused = length-line t noticeWord (omega arith) 1 0
 line-most t (Notice k) = length-line t noticeWord (omega arith) k 0
 line-most t (Low c start n) = length-line t lowWord (omega arith) c n
 line-most t (Ordinary c n) = length-line t ordinaryWord (omega arith) c n
-
--- nothing put
-pub nothing : (d : List ℕ) (at : ℕ) → at ≤ length d → blockOf d at ≡ put d at []
-nothing d at h =
-    let stays : at + 0 ≡ at = omega arith in
-    sym
-    (fits d at [] (omega arith)
-    ∙ ap (λ (k : ℕ). blockOf (take at d ++ [] ++ drop k d) k) stays
-    ∙ ap (λ (x : List ℕ). blockOf (x ++ drop at d) at) (append-nil (take at d))
-    ∙ ap (λ (x : List ℕ). blockOf x at) (take-append-drop at d))
 
 module _ (d : List ℕ) (long : 80 ≤ length d) (t : ℕ) (f : Find) (y : List ℕ) (r : ℕ) (e : blockOf y r ≡ put d 0 (lineOf t f)) where
   room : 0 + length (lineOf t f) ≤ length d

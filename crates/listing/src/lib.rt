@@ -26,15 +26,25 @@ pub fn header(out: &mut [u8], at: usize) -> usize
     block::put(out, at, b"tp what content bytes\n")
 }
 
+// Puts s, where it has room.
+fn piece(out: &mut [u8], at: usize, s: &[u8]) -> usize
+    requires { ⌜ at + length (now s) ≤ length (now out) ⌝ }
+    ensures { λ r. ⌜ record { bytes = now (out .exit); at = r } ≡ put (now (out .entry)) at (now (s .entry)) ⌝ }
+{
+    let end = at + s.len();
+    queue::copy_at(&mut out[at..end], 0, s);
+    end
+}
+
 // Puts a line's numbers behind its word.
 fn numbers(content: u64, bytes: u64, out: &mut [u8], at: usize) -> usize
     requires { ⌜ at + 42 ≤ length (now out) ⌝ }
     ensures { λ r. ⌜ record { bytes = now (out .exit); at = r } ≡ put (now (out .entry)) at (decimal content ++ (32 ∷ []) ++ decimal bytes ++ (10 ∷ [])) ⌝ }
 {
     let mut end = block::put_number(out, at, content);
-    end = block::put(out, end, b" ");
+    end = piece(out, end, b" ");
     end = block::put_number(out, end, bytes);
-    block::put(out, end, b"\n")
+    piece(out, end, b"\n")
 }
 
 // Puts a notice's line, where the longest line has room.
@@ -43,7 +53,7 @@ fn notice(number: u64, n: u64, out: &mut [u8], at: usize) -> usize
     ensures { λ r. ⌜ record { bytes = now (out .exit); at = r } ≡ put (now (out .entry)) at (lineWith number noticeWord n 0) ⌝ }
 {
     let mut end = block::put_number(out, at, number);
-    end = block::put(out, end, b" notice ");
+    end = piece(out, end, b" notice ");
     numbers(n, 0, out, end)
 }
 
@@ -53,7 +63,7 @@ fn low(number: u64, content: u64, bytes: u64, out: &mut [u8], at: usize) -> usiz
     ensures { λ r. ⌜ record { bytes = now (out .exit); at = r } ≡ put (now (out .entry)) at (lineWith number lowWord content bytes) ⌝ }
 {
     let mut end = block::put_number(out, at, number);
-    end = block::put(out, end, b" low ");
+    end = piece(out, end, b" low ");
     numbers(content, bytes, out, end)
 }
 
@@ -63,7 +73,7 @@ fn ordinary(number: u64, content: u64, bytes: u64, out: &mut [u8], at: usize) ->
     ensures { λ r. ⌜ record { bytes = now (out .exit); at = r } ≡ put (now (out .entry)) at (lineWith number ordinaryWord content bytes) ⌝ }
 {
     let mut end = block::put_number(out, at, number);
-    end = block::put(out, end, b" ordinary ");
+    end = piece(out, end, b" ordinary ");
     numbers(content, bytes, out, end)
 }
 
@@ -115,6 +125,9 @@ pub fn step(
 {
     let step = receiver::next(r, tp, room);
     let find = step.find;
+    if let Find::Nothing = find {
+        return Listed { step, at };
+    }
     let held = line(number, find, out, at);
     Listed { step, at: held }
 }

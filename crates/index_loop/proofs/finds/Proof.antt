@@ -48,7 +48,7 @@ same-length-4 : tie.Need-same-length-4 Inv-loop μ-loop
 same-length-4 c = c .before .before .before .before .before .out .given ∙ c .before .before .before .before .before .before .before .before .before .before .before .before .before .loop .inv .1 .1
 
 returns-2 : tie.Need-returns-2 Inv-loop μ-loop
-returns-2 c = record { able = c .before .before .before .before .before .before .before .before .find .ensures; from = omega arith; end = omega arith }
+returns-2 c = record { able = c .before .before .before .before .before .before .before .before .find .ensures .able; from = omega arith; end = omega arith }
 
 sub-left : tie.Need-sub-left Inv-loop μ-loop
 sub-left c = omega (arith, c .before .before .before .before .before .before .before .before .before .before .before .loop-test .taken)
@@ -57,7 +57,7 @@ loop-less : tie.Need-loop-less Inv-loop μ-loop
 loop-less c = omega (arith, c .before .before .before .before .before .before .before .before .before .before .before .loop-test .taken)
 
 loop-again : tie.Need-loop-again Inv-loop μ-loop
-loop-again c = (c .before .before .before .before .before .before .before .find .ensures, (c .before .before .before .before .before .before .room .given ∙ c .before .before .before .before .before .before .before .before .before .before .before .before .loop .inv .1 .0, c .before .before .before .before .out .given ∙ c .before .before .before .before .before .before .before .before .before .before .before .before .loop .inv .1 .1))
+loop-again c = (c .before .before .before .before .before .before .before .find .ensures .able, (c .before .before .before .before .before .before .room .given ∙ c .before .before .before .before .before .before .before .before .before .before .before .before .loop .inv .1 .0, c .before .before .before .before .out .given ∙ c .before .before .before .before .before .before .before .before .before .before .before .before .loop .inv .1 .1))
 
 same-length-5 : tie.Need-same-length-5 Inv-loop μ-loop
 same-length-5 c = search needs

@@ -1,5 +1,10 @@
 -- `listing::numbers` meets its contract: four pieces, one after the other, are the numbers.
 -- Assumes nothing.
+use mathlib.Core.List.{[], _∷_}
+use native.Mathlib.Omega.{arith}
+use Rattle.block.specs.Decimal.{decimal}
+use Rattle.block.proofs.Laws.{room}
+use Rattle.block.proofs.Decimals.{decimal-most}
 use Rattle.listing.proofs.Laws.{numbered}
 use borrow.Author.Needs.{needs}
 use Rattle.listing.proofs.numbers.Statement.{statement}
@@ -8,20 +13,28 @@ use Rattle.listing.proofs.numbers.Tie as tie
 put-number-requires : tie.Need-put-number-requires
 put-number-requires c κs = search needs
 
-slice-aggregate-put : tie.Need-slice-aggregate-put
-slice-aggregate-put c = search needs
+slice-aggregate-piece : tie.Need-slice-aggregate-piece
+slice-aggregate-piece c = search needs
 
-put-requires : tie.Need-put-requires
-put-requires c κs = search needs
+piece-requires : tie.Need-piece-requires
+piece-requires c κs =
+    let s = c .before .before .before .before .before .before .before in
+    let a = s .args in
+    room (a .out .now) _ (decimal (a .content)) (a .at) _ 1 (c .before .before .before .before .put-number .ensures) (omega (arith, s .pre, decimal-most (a .content)))
 
 put-number-requires-2 : tie.Need-put-number-requires-2
 put-number-requires-2 c κs = search needs
 
-slice-aggregate-put-2 : tie.Need-slice-aggregate-put-2
-slice-aggregate-put-2 c = search needs
+slice-aggregate-piece-2 : tie.Need-slice-aggregate-piece-2
+slice-aggregate-piece-2 c = search needs
 
-put-requires-2 : tie.Need-put-requires-2
-put-requires-2 c κs = search needs
+piece-requires-2 : tie.Need-piece-requires-2
+piece-requires-2 c κs =
+    let s = c .before .before .before .before .before .before .before .before .before .before .before .before .before .before .before .before in
+    let a = s .args in
+    let first = room (a .out .now) _ (decimal (a .content)) (a .at) _ 22 (c .before .before .before .before .before .before .before .before .before .before .before .before .before .put-number .ensures) (omega (arith, s .pre, decimal-most (a .content))) in
+    let second = room _ _ (32 ∷ []) _ _ 21 (c .before .before .before .before .before .before .before .before .piece .ensures) (omega (arith, first)) in
+    room _ _ (decimal (a .bytes)) _ _ 1 (c .before .before .before .before .put-number2 .ensures) (omega (arith, second, decimal-most (a .bytes)))
 
 same-length : tie.Need-same-length
 same-length c = search needs
@@ -30,17 +43,17 @@ returns : tie.Need-returns
 returns c =
     let s = c .before .before .before .before .before .before .before .before .before .before .before .before .before .before .before .before .before .before .before in
     let a = s .args in
-    numbered (a .out .now) (a .at) (a .content) (a .bytes) (s .pre) _ _ _ _ _ _ _ _ (c .before .before .before .before .before .before .before .before .before .before .before .before .before .before .before .before .put-number .ensures) (c .before .before .before .before .before .before .before .before .before .before .before .put .ensures) (c .before .before .before .before .before .before .before .put-number2 .ensures) (c .before .before .put2 .ensures)
+    numbered (a .out .now) (a .at) (a .content) (a .bytes) (s .pre) _ _ _ _ _ _ _ _ (c .before .before .before .before .before .before .before .before .before .before .before .before .before .before .before .before .put-number .ensures) (c .before .before .before .before .before .before .before .before .before .before .before .piece .ensures) (c .before .before .before .before .before .before .before .put-number2 .ensures) (c .before .before .piece2 .ensures)
 
 pub numbers-spec : {M : Type 1} → statement M
 numbers-spec =
     tie.close
     (tie.spec
     put-number-requires
-    slice-aggregate-put
-    put-requires
+    slice-aggregate-piece
+    piece-requires
     put-number-requires-2
-    slice-aggregate-put-2
-    put-requires-2
+    slice-aggregate-piece-2
+    piece-requires-2
     same-length
     returns)

@@ -1,10 +1,9 @@
 -- `listing::spell` meets its contract: the find's case picks the line.
 -- Assumes nothing.
 use mathlib.Core.Path.{ap, sym, _∙_}
-use native.Mathlib.Omega.{arith}
 use Rattle.block.specs.Block.{put}
 use Rattle.listing.specs.Lines.{lineOf}
-use Rattle.listing.proofs.Laws.{nothing}
+use Rattle.block.proofs.Laws.{nothing}
 use borrow.Author.Needs.{needs}
 use Rattle.listing.proofs.spell.Statement.{statement}
 use Rattle.listing.proofs.spell.Tie as tie
@@ -47,9 +46,8 @@ ordinary-requires c κs = search needs
 
 returns : tie.Need-returns
 returns c =
-    let s = c .before .before .before in
-    let a = s .args in
-    nothing (a .out .now) (a .at) (omega (arith, s .pre)) ∙ ap (λ f. put (a .out .now) (a .at) (lineOf (a .number) f)) (sym (c .enum-told .given .1))
+    let a = c .before .before .before .args in
+    nothing (a .out .now) (a .at) ∙ ap (λ f. put (a .out .now) (a .at) (lineOf (a .number) f)) (sym (c .enum-told .given .1))
 
 same-length : tie.Need-same-length
 same-length c = search needs

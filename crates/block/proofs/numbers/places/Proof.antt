@@ -1,10 +1,10 @@
--- `block::places` meets its contract: each turn takes off the last digit and counts it.
+-- `numbers::places` meets its contract: each turn takes off the last digit and counts it.
 -- Assumes nothing.
 use native.Mathlib.Omega.{arith}
 use borrow.Author.Needs.{needs}
 use Rattle.block.proofs.Decimals.{Counted, count-none, count-one, count-few, count-all}
-use Rattle.block.proofs.places.Statement.{statement}
-use Rattle.block.proofs.places.Tie as tie
+use Rattle.block.proofs.numbers.places.Statement.{statement}
+use Rattle.block.proofs.numbers.places.Tie as tie
 
 abbrev Inv-loop : tie.InvT-loop
 Inv-loop n k₀ rest₀ k rest = Counted n k rest

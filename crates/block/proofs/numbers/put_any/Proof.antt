@@ -1,4 +1,4 @@
--- `block::put_number` meets its contract: where the digits fit they are written, and elsewhere nothing is.
+-- `numbers::put_any` meets its contract: where the digits fit they are written, and elsewhere nothing is.
 -- Assumes nothing.
 use Prim.Native.Nat.{_+_, _-_, _≤_}
 use mathlib.Core.Path.{_≡_, ap, sym, _∙_}
@@ -9,8 +9,8 @@ use Rattle.block.specs.Decimal.{decimal}
 use Rattle.block.proofs.Decimals.{decimal-some}
 use Rattle.block.proofs.Laws.{fits, misfits, blockOf}
 use borrow.Author.Needs.{needs}
-use Rattle.block.proofs.put_number.Statement.{statement}
-use Rattle.block.proofs.put_number.Tie as tie
+use Rattle.block.proofs.numbers.put_any.Statement.{statement}
+use Rattle.block.proofs.numbers.put_any.Tie as tie
 
 places-requires : tie.Need-places-requires
 places-requires c κs = search needs
@@ -45,8 +45,8 @@ returns-3 c =
     ∙ ap (λ x. blockOf (placed (a .out .now) (a .at) d) (a .at + x)) long
     ∙ sym (fits (a .out .now) (a .at) d h)
 
-pub put-number-spec : {M : Type 1} → statement M
-put-number-spec =
+pub put-any-spec : {M : Type 1} → statement M
+put-any-spec =
     tie.close
     (tie.spec
     places-requires

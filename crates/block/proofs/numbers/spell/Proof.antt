@@ -1,4 +1,4 @@
--- `block::spell` meets its contract: each turn writes the last digit that is left, and then one is left.
+-- `numbers::spell` meets its contract: each turn writes the last digit that is left, and then one is left.
 -- Assumes nothing.
 use Prim.Native.Nat.{_+_, _%_}
 use mathlib.Core.Path.{_≡_, refl, _∙_}
@@ -6,8 +6,8 @@ use native.Mathlib.Omega.{arith}
 use lib.ListN.{length, length-set}
 use borrow.Author.Needs.{needs}
 use Rattle.block.proofs.Decimals.{decimal-some, Spelt, spelt-none, spelt-in, spelt-on, spelt-one, spelt-all}
-use Rattle.block.proofs.spell.Statement.{statement}
-use Rattle.block.proofs.spell.Tie as tie
+use Rattle.block.proofs.numbers.spell.Statement.{statement}
+use Rattle.block.proofs.numbers.spell.Tie as tie
 
 abbrev Inv-loop : tie.InvT-loop
 Inv-loop out₀ end n i₀ rest₀ out i rest = Spelt out₀ end n out i rest × (length out ≡ length out₀)

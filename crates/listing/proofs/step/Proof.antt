@@ -1,0 +1,48 @@
+-- `listing::step` meets its contract: the line of the find is put, and for nothing there is none.
+-- Assumes nothing.
+use mathlib.Core.Path.{ap, sym, _∙_}
+use Rattle.block.specs.Block.{put}
+use Rattle.block.proofs.Laws.{nothing}
+use Rattle.listing.specs.Lines.{lineOf}
+use borrow.Author.Needs.{needs}
+use Rattle.listing.proofs.step.Statement.{statement}
+use Rattle.listing.proofs.step.Tie as tie
+
+next-requires : tie.Need-next-requires
+next-requires c κs = search needs
+
+enum-told : tie.Need-enum-told
+enum-told c = search needs
+
+same-length : tie.Need-same-length
+same-length c = search needs
+
+returns : tie.Need-returns
+returns c =
+    let a = c .before .before .before .before .before .before .before .before .before .args in
+    (c .before .before .before .before .next .ensures, nothing (a .out .now) (a .at) ∙ ap (λ f. put (a .out .now) (a .at) (lineOf (a .number) f)) (sym (c .enum-told .given .1)))
+
+line-requires : tie.Need-line-requires
+line-requires c κs = search needs
+
+same-length-2 : tie.Need-same-length-2
+same-length-2 c = search needs
+
+same-length-3 : tie.Need-same-length-3
+same-length-3 c = search needs
+
+returns-2 : tie.Need-returns-2
+returns-2 c = search needs
+
+pub step-spec : {M : Type 1} → statement M
+step-spec =
+    tie.close
+    (tie.spec
+    next-requires
+    enum-told
+    same-length
+    returns
+    line-requires
+    same-length-2
+    same-length-3
+    returns-2)
