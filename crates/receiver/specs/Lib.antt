@@ -19,5 +19,6 @@ pub mod Pieces
 pub mod Turn
 -- what the private functions promise one another, and nobody has to believe
 pub mod InWalk
+pub mod InStride
 pub mod InOutset
 pub mod InStages

@@ -14,6 +14,7 @@ mod outset;
 mod pieces;
 mod stages;
 mod stamps;
+mod stride;
 mod walk;
 
 use stages::Course;

@@ -11,6 +11,7 @@ use crate::Stamp;
 use crate::judge;
 use crate::outset;
 use crate::stamps;
+use crate::stride;
 use wire::Header;
 
 // Out of step; in a header, of which these bytes are read (none between two EPs); behind a header that got 14; in an
@@ -252,9 +253,12 @@ pub fn onward(start: Walk, stamp: Stamp, tp: &[u8], room: &mut [u8]) -> Answer
 {
     let mut w = start;
     let out = loop {
-        match advance_in(w, stamp, tp, room) {
-            Turn::More(x) => w = x,
+        match stride::on(w, stamp, tp, room) {
             Turn::Stop(a) => break a,
+            Turn::More(q) => match advance_in(q, stamp, tp, room) {
+                Turn::More(x) => w = x,
+                Turn::Stop(a) => break a,
+            },
         }
     };
     out

@@ -1,7 +1,7 @@
 -- What the decoder's answers make of a header's words.
 -- Assumes nothing.
 use mathlib.Core.Path.{_≡_, refl, sym, ap, _∙_}
-use mathlib.Core.Bool.{true}
+use mathlib.Core.Bool.{Bool, true, false, cond, _&&_}
 use mathlib.Core.Option.{Option, none, some}
 use lib.Dec.{eqb, leb}
 use borrow.Author.Tests.{eqb-true}
@@ -16,7 +16,7 @@ use Rattle.golay.proofs.Theorems.{is-reading}
 use Rattle.wire.specs.declared.Header.{Header}
 use Rattle.wire.specs.declared.Read as R
 use Rattle.wire.specs.declared.TpWord as W
-use Rattle.wire.specs.Reading.{numberOf, fieldsOf, headerFrom, headerIn, readOf, tpNumberIn, tpWordOf}
+use Rattle.wire.specs.Reading.{numberOf, fieldsOf, headerFrom, headerIn, intactIn, readOf, tpNumberIn, tpWordOf}
 
 pub number-is : (w : ℕ) (r : Decoded) → Decodes w r → numberOf (reading w) ≡ numberOf r
 number-is w r d = ap numberOf (sym (is-reading w r d))
@@ -51,10 +51,58 @@ module _ (bytes : ℕ) (x : Decoded) (d : Decodes bytes x) where
   unfolding tpNumberIn
   word-says n i p e = rw (number-is bytes x d, e)
 
--- two intact words
-pub both-intact : (bytes : ℕ) (h : Header) → eqb (syndrome (bytes / 2 ^ 24 % 2 ^ 24)) 0 ≡ true → eqb (syndrome (bytes % 2 ^ 24)) 0 ≡ true
-    → h ≡ fieldsOf (high (bytes / 2 ^ 24 % 2 ^ 24)) (high (bytes % 2 ^ 24)) 0 → R.the-variants.Whole h ≡ readOf (headerIn bytes)
-both-intact bytes h e f is =
-    let a = bytes / 2 ^ 24 % 2 ^ 24 in
-    let b = bytes % 2 ^ 24 in
-    both-whole bytes (Word (high a) 0 0) (intact a (eqb-true (syndrome a) 0 e)) (Word (high b) 0 0) (intact b (eqb-true (syndrome b) 0 f)) (high a) 0 0 refl (high b) 0 0 refl h is
+-- an intact word says its number
+pub word-intact : (w : ℕ) → eqb (syndrome w) 0 ≡ true → tpWordOf (some (high w)) ≡ tpWordOf (tpNumberIn w)
+word-intact w e = word-says w (Word (high w) 0 0) (intact w (eqb-true (syndrome w) 0 e)) (high w) 0 0 refl
+
+abbrev told : Option Header → ℕ
+told none = 0
+told (some h) = 1
+
+-- two intact words say what they hold
+pub intact-is : (w : ℕ) (h : Header) → intactIn w ≡ some h → headerIn w ≡ some h
+unfolding intactIn headerIn
+intact-is w h e = by (eqb (syndrome a) 0) (eqb (syndrome b) 0) refl refl e
+  where
+    a : ℕ
+    a = w / 2 ^ 24 % 2 ^ 24
+
+    b : ℕ
+    b = w % 2 ^ 24
+
+    read : (v : ℕ) → eqb (syndrome v) 0 ≡ true → reading v ≡ Word (high v) 0 0
+    read v x = sym (is-reading v (Word (high v) 0 0) (intact v (eqb-true (syndrome v) 0 x)))
+
+    by : (x y : Bool) → eqb (syndrome a) 0 ≡ x → eqb (syndrome b) 0 ≡ y → cond (x && y) (some (fieldsOf (high a) (high b) 0)) none ≡ some h
+        → headerFrom (reading a) (reading b) ≡ some h
+    by true true p q f = rw (read a p, read b q) f
+    by true false p q f = let z : _≡_ {A = ℕ} 0 1 = ap told f in absurd (omega arith)
+    by false y p q f = let z : _≡_ {A = ℕ} 0 1 = ap told f in absurd (omega arith)
+
+-- what `wire::read_intact` answers, by its two tests
+module _ (w : ℕ) where
+  pub both-intact : (h : Header) → eqb (syndrome (w / 2 ^ 24 % 2 ^ 24)) 0 ≡ true → eqb (syndrome (w % 2 ^ 24)) 0 ≡ true
+      → h ≡ fieldsOf (high (w / 2 ^ 24 % 2 ^ 24)) (high (w % 2 ^ 24)) 0 → R.the-variants.Whole h ≡ readOf (intactIn w)
+  unfolding intactIn
+  both-intact h e f is = rw (e, f, is)
+
+  pub second-flipped : eqb (syndrome (w / 2 ^ 24 % 2 ^ 24)) 0 ≡ true → eqb (syndrome (w % 2 ^ 24)) 0 ≡ false → R.the-variants.Beyond ≡ readOf (intactIn w)
+  unfolding intactIn
+  second-flipped e f = rw (e, f)
+
+  pub first-flipped : eqb (syndrome (w / 2 ^ 24 % 2 ^ 24)) 0 ≡ false → R.the-variants.Beyond ≡ readOf (intactIn w)
+  unfolding intactIn
+  first-flipped e = rw e
+
+-- the header of an answer
+abbrev headed : R.Read → Option Header
+headed R.the-variants.Beyond = none
+headed (R.the-variants.Whole h) = some h
+
+headed-back : (o : Option Header) → headed (readOf o) ≡ o
+headed-back none = refl
+headed-back (some h) = refl
+
+-- an answer of two intact words is the header that they hold, of which no bit was flipped
+pub read-intact-is : (w : ℕ) (r : R.Read) (h : Header) → r ≡ readOf (intactIn w) → r ≡ R.the-variants.Whole h → headerIn w ≡ some h
+read-intact-is w r h a b = intact-is w h (sym (headed-back (intactIn w)) ∙ ap headed (sym a ∙ b))

@@ -1,6 +1,6 @@
 -- EP header and TP header as they are read, from any maker (document 01, "Layouts").
 -- Bits 11 and 10 of word 0, and bits 3 and 2 of the stream byte, are ignored. Assumes nothing.
-use mathlib.Core.Bool.{Bool, cond}
+use mathlib.Core.Bool.{Bool, cond, _&&_}
 use mathlib.Core.Option.{Option, none, some}
 use mathlib.Core.List.{List}
 use Prim.Native.Nat.{ℕ, _+_, _*_, _/_, _%_, _^_}
@@ -8,6 +8,7 @@ use lib.Dec.{eqb, leb}
 use Rattle.digits.specs.Digits.{number}
 use Rattle.golay.specs.declared.Decoded.{Decoded}
 use Rattle.golay.specs.declared.Decoded.the-variants.{Word, Beyond}
+use Rattle.golay.specs.Golay.{high, syndrome}
 use Rattle.golay.specs.Answers.{reading}
 use Rattle.wire.specs.declared.Header.{Header}
 use Rattle.wire.specs.declared.Read as R
@@ -33,6 +34,13 @@ headerFrom Beyond w = none
 -- six bytes as a number, and the header that they hold; none if one of its words is beyond repair
 unfoldable pub headerIn : ℕ → Option Header
 headerIn w = headerFrom (reading (w / 2 ^ 24 % 2 ^ 24)) (reading (w % 2 ^ 24))
+
+-- the same if both words are intact: no bit of them is flipped
+unfoldable pub intactIn : ℕ → Option Header
+intactIn w =
+    cond (eqb (syndrome (w / 2 ^ 24 % 2 ^ 24)) 0 && eqb (syndrome (w % 2 ^ 24)) 0)
+    (some (fieldsOf (high (w / 2 ^ 24 % 2 ^ 24)) (high (w % 2 ^ 24)) 0))
+    none
 
 unfoldable pub headerOf : List ℕ → Option Header
 headerOf bytes = headerIn (number 0 bytes)

@@ -1,8 +1,9 @@
 // EP header and TP header: numbers to bytes, and back from any maker's bytes.
 ghost use mathlib.Core.Path.{_≡_};
+ghost use mathlib.Core.Option.{some};
 ghost use Prim.Native.Nat.{_+_, _≤_};
 ghost use Rattle.wire.specs.Wire.{word, header, offsetNumber, tpHeader};
-ghost use Rattle.wire.specs.Reading.{fieldsOf, headerIn, readOf, tpNumberIn, tpWordOf, sortOf};
+ghost use Rattle.wire.specs.Reading.{fieldsOf, headerIn, intactIn, readOf, tpNumberIn, tpWordOf, sortOf};
 
 mod limits;
 
@@ -105,9 +106,9 @@ fn decoded(bytes: u64) -> Read
     Read::Whole(header_from(a, b, i + j))
 }
 
-// The EP header that six bytes, as a number, hold. Two intact words leave at once.
-pub fn read_header(bytes: u64) -> Read
-    ensures { λ r. ⌜ r ≡ readOf (headerIn bytes) ⌝ }
+// The EP header that six bytes, as a number, hold, if both its words are intact.
+pub fn read_intact(bytes: u64) -> Read
+    ensures { λ r. ⌜ r ≡ readOf (intactIn bytes) ⌝ }
 {
     let a = (bytes / 0x100_0000 % 0x100_0000) as u32;
     let b = (bytes % 0x100_0000) as u32;
@@ -117,22 +118,41 @@ pub fn read_header(bytes: u64) -> Read
             return Read::Whole(h);
         }
     }
+    Read::Beyond
+}
+
+// The EP header that six bytes, as a number, hold. Two intact words leave at once.
+pub fn read_header(bytes: u64) -> Read
+    ensures { λ r. ⌜ r ≡ readOf (headerIn bytes) ⌝ }
+{
+    if let Read::Whole(h) = read_intact(bytes) {
+        return Read::Whole(h);
+    }
     decoded(bytes)
 }
 
-// The low-latency flag and the offset that three bytes, as a number, hold.
+fn says(number: u16) -> TpWord
+    ensures { λ r. ⌜ r ≡ tpWordOf (some number) ⌝ }
+{
+    TpWord::Says {
+        low: 2048 <= number,
+        offset: (number % 2048) as usize,
+    }
+}
+
+// The low-latency flag and the offset that three bytes, as a number, hold. An intact word leaves at once.
 pub fn read_tp_word(bytes: u32) -> TpWord
     ensures { λ r. ⌜ r ≡ tpWordOf (tpNumberIn bytes) ⌝ }
 {
+    if golay::is_intact(bytes) {
+        return says((bytes / 4096 % 4096) as u16);
+    }
     match golay::decode(bytes) {
         Decoded::Word {
             number,
             flips: _,
             places: _,
-        } => TpWord::Says {
-            low: 2048 <= number,
-            offset: (number % 2048) as usize,
-        },
+        } => says(number),
         Decoded::Beyond => TpWord::Beyond,
     }
 }

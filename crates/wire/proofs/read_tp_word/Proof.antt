@@ -1,9 +1,22 @@
 -- `wire::read_tp_word` meets its contract.
 -- Assumes nothing.
-use Rattle.wire.proofs.Answers.{word-beyond, word-says}
+use mathlib.Core.Path.{sym, _∙_}
+use Rattle.wire.proofs.Answers.{word-beyond, word-intact, word-says}
 use borrow.Author.Needs.{needs}
 use Rattle.wire.proofs.read_tp_word.Statement.{statement}
 use Rattle.wire.proofs.read_tp_word.Tie as tie
+
+is-intact-requires : tie.Need-is-intact-requires
+is-intact-requires c κs = search needs
+
+cast-says : tie.Need-cast-says
+cast-says c = search needs
+
+says-requires : tie.Need-says-requires
+says-requires c κs = search needs
+
+returns : tie.Need-returns
+returns c = c .says .ensures ∙ word-intact (c .before .before .before .args .bytes) (sym (c .before .before .is-intact .ensures) ∙ c .before .if1 .taken)
 
 decode-requires : tie.Need-decode-requires
 decode-requires c κs = search needs
@@ -11,20 +24,34 @@ decode-requires c κs = search needs
 enum-known-number : tie.Need-enum-known-number
 enum-known-number c = search needs
 
-cast-t7 : tie.Need-cast-t7
-cast-t7 c = search needs
+says-requires-2 : tie.Need-says-requires-2
+says-requires-2 c κs = search needs
 
 enum-told : tie.Need-enum-told
 enum-told c = search needs
 
-returns : tie.Need-returns
-returns c =
-    let n = c .before .number .given in
-    word-says (c .before .before .before .before .args .bytes) (c .before .before .before .decode .result) (c .before .before .before .decode .ensures) (n .0 .0) (n .0 .1 .0) (n .0 .1 .1 .0) (n .1)
-
 returns-2 : tie.Need-returns-2
-returns-2 c = word-beyond (c .before .before .before .args .bytes) (c .before .before .decode .result) (c .before .before .decode .ensures) (c .enum-told .given .1)
+returns-2 c =
+    let n = c .before .before .number .given in
+    let d = c .before .before .before .before .decode in
+    c .says2 .ensures ∙ word-says (c .before .before .before .before .before .before .before .args .bytes) (d .result) (d .ensures) (n .0 .0) (n .0 .1 .0) (n .0 .1 .1 .0) (n .1)
+
+returns-3 : tie.Need-returns-3
+returns-3 c =
+    let d = c .before .before .decode in
+    word-beyond (c .before .before .before .before .before .args .bytes) (d .result) (d .ensures) (c .enum-told .given .1)
 
 pub read-tp-word-spec : {M : Type 1} → statement M
 read-tp-word-spec =
-    tie.close (tie.spec decode-requires enum-known-number cast-t7 enum-told returns returns-2)
+    tie.close
+    (tie.spec
+    is-intact-requires
+    cast-says
+    says-requires
+    returns
+    decode-requires
+    enum-known-number
+    says-requires-2
+    enum-told
+    returns-2
+    returns-3)

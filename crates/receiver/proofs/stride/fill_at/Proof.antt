@@ -1,0 +1,62 @@
+-- `receiver::stride::fill_at` meets its contract.
+-- Assumes nothing.
+use native.Mathlib.Omega.{arith}
+use Rattle.receiver.proofs.Striding.{fill-kind, stands-of}
+use borrow.Author.Needs.{needs}
+use Rattle.receiver.proofs.stride.fill_at.Statement.{statement}
+use Rattle.receiver.proofs.stride.fill_at.Tie as tie
+
+returns : tie.Need-returns
+returns c = search needs
+
+shared-slice-read-if2 : tie.Need-shared-slice-read-if2
+shared-slice-read-if2 c = search needs
+
+returns-2 : tie.Need-returns-2
+returns-2 c = search needs
+
+header-at-requires : tie.Need-header-at-requires
+header-at-requires c κs = search needs
+
+enum-known-h : tie.Need-enum-known-h
+enum-known-h c = search needs
+
+enum-told : tie.Need-enum-told
+enum-told c = search needs
+
+returns-3 : tie.Need-returns-3
+returns-3 c = search needs
+
+returns-4 : tie.Need-returns-4
+returns-4 c = search needs
+
+sub-if4 : tie.Need-sub-if4
+sub-if4 c = search needs
+
+sub-if4-2 : tie.Need-sub-if4-2
+sub-if4-2 c =
+    let s = stands-of _ _ _ _ (c .before .before .before .before .before .header-at .ensures) (c .before .before .before .h .given .1) in omega (arith, s .six)
+
+returns-5 : tie.Need-returns-5
+returns-5 c = search needs
+
+returns-6 : tie.Need-returns-6
+returns-6 c =
+    let s = stands-of _ _ _ _ (c .before .before .before .before .before .before .before .header-at .ensures) (c .before .before .before .before .before .h .given .1) in (record { stands = s; kind = fill-kind _ (c .before .before .if3 .left) }, omega (arith, s .six, c .if4 .left))
+
+pub fill-at-spec : {M : Type 1} → statement M
+fill-at-spec =
+    tie.close
+    (tie.spec
+    returns
+    shared-slice-read-if2
+    returns-2
+    header-at-requires
+    enum-known-h
+    enum-told
+    returns-3
+    returns-4
+    sub-if4
+    sub-if4-2
+    returns-5
+    returns-6)
