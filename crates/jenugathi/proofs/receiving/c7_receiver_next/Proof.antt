@@ -41,7 +41,7 @@ number-of-requires c κs = search needs
 
 -- src/receiving.rt:93:1
 returns : tie.Need-returns
-returns c = stays (c .before .before .before .before .before .before .args .w .now) _ (c .before .before .of-words .ensures .0) (c .before .before .before .before .before .before .args .tp .now) (c .before .before .before .before .before .before .args .room .now) _ (c .enum-told .given .1) refl
+returns c = stays (c .before .before .before .before .before .before .before .args .w .now) _ (c .before .before .before .of-words .ensures .0) (c .before .before .before .before .before .before .before .args .tp .now) (c .before .before .before .before .before .before .before .args .room .now) _ (c .before .enum-told .given .1) refl
 
 -- src/receiving.rt:93:1
 same-length : tie.Need-same-length

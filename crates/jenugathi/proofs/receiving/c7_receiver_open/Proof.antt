@@ -10,7 +10,7 @@ use Rattle.receiver.proofs.words.words_of.Reads as words-of-reads
 
 -- src/receiving.rt:67:9
 returns : tie.Need-returns
-returns c = beyond (c .before .args .w .now) (c .before .args .tp) (c .before .args .stream) (length (c .before .args .room .now)) (c .if1 .taken)
+returns c = beyond (c .before .before .args .w .now) (c .before .before .args .tp) (c .before .before .args .stream) (length (c .before .before .args .room .now)) (c .if1 .taken)
 
 -- src/receiving.rt:69:30
 cast-open : tie.Need-cast-open
