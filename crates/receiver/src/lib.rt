@@ -16,6 +16,7 @@ mod stages;
 mod stamps;
 mod stride;
 mod walk;
+pub mod words;
 
 use stages::Course;
 use stages::Stamps;
