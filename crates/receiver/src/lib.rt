@@ -298,8 +298,8 @@ pub fn gap(r: Receiver) -> Receiver
 fn part(s: &[u8], start: usize, len: usize) -> &[u8]
     ensures { λ r. ⌜ now r ≡ take len (drop start (now (s .entry))) ⌝ }
 {
-    let from = outset::least(start, s.len());
-    let end = from + outset::least(len, s.len() - from);
+    let from = queue::least(start, s.len());
+    let end = from + queue::least(len, s.len() - from);
     &s[from..end]
 }
 

@@ -1,6 +1,6 @@
 // How a TP's ordinary bytes are set about: the offset (10, 21), the forecast, 12 on a header begun earlier, 13.
 ghost use mathlib.Core.Path.{_≡_};
-ghost use Prim.Native.Nat.{_+_, _≤_, _<_, _^_, min};
+ghost use Prim.Native.Nat.{_+_, _≤_, _<_, _^_};
 ghost use lib.ListN.{length, drop};
 ghost use Rattle.wire.specs.Reading.{headerIn};
 ghost use Rattle.receiver.specs.State.{Settled};
@@ -33,12 +33,6 @@ pub enum Start {
     Loses(u8),
 }
 
-pub fn least(a: usize, b: usize) -> usize
-    ensures { λ r. ⌜ r ≡ min a b ⌝ }
-{
-    if a < b { a } else { b }
-}
-
 // Behind a header read on for the forecast only, of which `missing` bytes stand here.
 fn behind(word: u64, missing: usize, rest: usize) -> Fore
     requires { ⌜ missing ≤ rest ⌝ }
@@ -46,7 +40,7 @@ fn behind(word: u64, missing: usize, rest: usize) -> Fore
 {
     match wire::read_header(word) {
         Read::Beyond => Fore::Bad,
-        Read::Whole(h) => Fore::At(missing + least(h.size, rest - missing)),
+        Read::Whole(h) => Fore::At(missing + queue::least(h.size, rest - missing)),
     }
 }
 
@@ -72,8 +66,8 @@ fn forecast(tp: &[u8], at: usize, phase: Phase) -> Fore
     match phase {
         Phase::Lost => Fore::Off,
         Phase::Head { have, word } => ahead(tp, at, have, word),
-        Phase::Judged(h) => Fore::At(least(h.size, tp.len() - at)),
-        Phase::Body { header: _, left } => Fore::At(least(left, tp.len() - at)),
+        Phase::Judged(h) => Fore::At(queue::least(h.size, tp.len() - at)),
+        Phase::Body { header: _, left } => Fore::At(queue::least(left, tp.len() - at)),
     }
 }
 

@@ -13,7 +13,6 @@ ghost use Rattle.receiver.specs.InStride.{HeaderAt, FillAt, MiddleAt, Co
 use crate::Place;
 use crate::Stamp;
 use crate::judge;
-use crate::outset;
 use crate::stamps;
 use crate::walk;
 use crate::walk::Gain;
@@ -170,7 +169,7 @@ fn taken(tp: &[u8], from: usize, header: Header, began: Place, room: &mut [u8]) 
     let size = header.size;
     let content = header.content;
     let repaired = header.flips as u64;
-    let n = outset::least(size, tp.len() - from);
+    let n = queue::least(size, tp.len() - from);
     let end = from + n;
     queue::copy_at(room, 0, &tp[from..end]);
     if n < size {

@@ -9,7 +9,6 @@ ghost use Rattle.receiver.specs.InWalk.{pasted, roomOf, Ends};
 use crate::Place;
 use crate::Stamp;
 use crate::judge;
-use crate::outset;
 use crate::stamps;
 use crate::stride;
 use wire::Header;
@@ -238,7 +237,7 @@ fn advance_in(w: Walk, stamp: Stamp, tp: &[u8], room: &mut [u8]) -> Turn
         Phase::Head { have: _, word: _ } => {}
         Phase::Judged(_) => {}
         Phase::Body { header: h, left } => {
-            let n = outset::least(left, tp.len() - at);
+            let n = queue::least(left, tp.len() - at);
             put(tp, at, n, kept, room);
             return body(tp, at, h, left, began, kept);
         }
