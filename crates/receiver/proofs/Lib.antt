@@ -5,6 +5,7 @@ pub mod Heading
 pub mod Turning
 pub mod Bodies
 pub mod Advancing
+pub mod Standing
 pub mod Striding
 pub mod Foretelling
 pub mod SettingOut

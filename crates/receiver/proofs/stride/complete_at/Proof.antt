@@ -1,6 +1,6 @@
 -- `receiver::stride::complete_at` meets its contract.
 -- Assumes nothing.
-use Rattle.receiver.proofs.Striding.{complete-kind, stands-of}
+use Rattle.receiver.proofs.Standing.{complete-kind, stands-of}
 use borrow.Author.Needs.{needs}
 use Rattle.receiver.proofs.stride.complete_at.Statement.{statement}
 use Rattle.receiver.proofs.stride.complete_at.Tie as tie

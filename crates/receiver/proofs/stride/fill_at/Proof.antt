@@ -1,7 +1,7 @@
 -- `receiver::stride::fill_at` meets its contract.
 -- Assumes nothing.
 use native.Mathlib.Omega.{arith}
-use Rattle.receiver.proofs.Striding.{fill-kind, stands-of}
+use Rattle.receiver.proofs.Standing.{fill-kind, stands-of}
 use borrow.Author.Needs.{needs}
 use Rattle.receiver.proofs.stride.fill_at.Statement.{statement}
 use Rattle.receiver.proofs.stride.fill_at.Tie as tie

@@ -3,7 +3,8 @@
 use mathlib.Core.Path.{refl}
 use lib.ListN.{length}
 use native.Mathlib.Omega.{arith}
-use Rattle.receiver.proofs.Striding.{complete-of, free-complete, free-on}
+use Rattle.receiver.proofs.Standing.{complete-of}
+use Rattle.receiver.proofs.Striding.{free-complete, free-on}
 use borrow.Author.Needs.{needs}
 use Rattle.receiver.proofs.stride.free.Statement.{statement}
 use Rattle.receiver.proofs.stride.free.Tie as tie

@@ -1,6 +1,6 @@
 -- `receiver::stride::header_at` meets its contract.
 -- Assumes nothing.
-use Rattle.receiver.proofs.Striding.{header-stands}
+use Rattle.receiver.proofs.Standing.{header-stands}
 use native.Mathlib.Omega.{arith}
 use borrow.Author.Needs.{needs}
 use Rattle.receiver.proofs.stride.header_at.Statement.{statement}

@@ -1,7 +1,7 @@
 -- `receiver::stride::middle_at` meets its contract.
 -- Assumes nothing.
 use native.Mathlib.Omega.{arith}
-use Rattle.receiver.proofs.Striding.{middle-kind, stands-of}
+use Rattle.receiver.proofs.Standing.{middle-kind, stands-of}
 use borrow.Author.Needs.{needs}
 use Rattle.receiver.proofs.stride.middle_at.Statement.{statement}
 use Rattle.receiver.proofs.stride.middle_at.Tie as tie

@@ -6,7 +6,8 @@ use lib.ListN.{length}
 use native.Mathlib.Omega.{arith}
 use borrow.Author.Needs.{needs}
 use Rattle.receiver.specs.InStride.{Skips}
-use Rattle.receiver.proofs.Striding.{fill-of, fill-skips, skips-none, skips-on}
+use Rattle.receiver.proofs.Standing.{fill-of}
+use Rattle.receiver.proofs.Striding.{fill-skips, skips-none, skips-on}
 use Rattle.receiver.proofs.stride.past_fill.Statement.{statement}
 use Rattle.receiver.proofs.stride.past_fill.Tie as tie
 

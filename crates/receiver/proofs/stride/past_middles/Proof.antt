@@ -6,7 +6,8 @@ use lib.ListN.{length}
 use native.Mathlib.Omega.{arith}
 use borrow.Author.Needs.{needs}
 use Rattle.receiver.specs.InStride.{Joins}
-use Rattle.receiver.proofs.Striding.{joins-none, joins-on, middle-joins, middle-of, middle-put}
+use Rattle.receiver.proofs.Standing.{middle-of}
+use Rattle.receiver.proofs.Striding.{joins-none, joins-on, middle-joins, middle-put}
 use Rattle.receiver.proofs.stride.past_middles.Statement.{statement}
 use Rattle.receiver.proofs.stride.past_middles.Tie as tie
 

@@ -1,7 +1,7 @@
 -- `receiver::stride::taken` meets its contract: the TP's end cuts the data, or the packet is handed out.
 -- Assumes nothing.
 use mathlib.Core.Path.{_∙_}
-use Rattle.receiver.proofs.Striding.{taken-cut, taken-put, taken-whole}
+use Rattle.receiver.proofs.Standing.{taken-cut, taken-put, taken-whole}
 use borrow.Author.Needs.{needs}
 use Rattle.receiver.proofs.stride.taken.Statement.{statement}
 use Rattle.receiver.proofs.stride.taken.Tie as tie
