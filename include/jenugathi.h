@@ -135,8 +135,8 @@ uint32_t c7_receiver_gap(c7_receiver *r);
 
 /* ---- Chapter 11 packets ---- */
 
-/* The source packet (content C7_CHAPTER_11) of a Chapter 11 packet, into out; its length into *written, 0 if refused.
- * Gives C7_DONE, C7_NO_CHAPTER_11 or C7_FILL_NOT_ZERO. */
+/* The source packet (content C7_CHAPTER_11) of a Chapter 11 packet, into out, and its length into *written. Gives C7_DONE,
+ * C7_NO_CHAPTER_11 or C7_FILL_NOT_ZERO. */
 uint32_t c7_compose(const uint8_t *packet, size_t packet_length, uint8_t *out, size_t out_length, uint64_t *written);
 
 /* And back. Gives C7_DONE or C7_NO_CHAPTER_11. */
