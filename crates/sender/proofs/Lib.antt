@@ -11,3 +11,4 @@ pub mod RestAfter
 pub mod Stream
 pub mod Drawn
 pub mod Lengths
+pub mod Worded

@@ -4,3 +4,4 @@ pub mod Offering
 pub mod Drawing
 pub mod Steps
 pub mod Run
+pub mod Words

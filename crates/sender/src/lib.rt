@@ -13,6 +13,7 @@ mod eps;
 mod ordinary;
 mod part;
 mod reading;
+pub mod words;
 
 use checks::Check;
 use queue::Ring;

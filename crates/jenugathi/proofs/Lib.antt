@@ -1,0 +1,4 @@
+pub mod Bytes
+pub mod Composes
+pub mod Receives
+pub mod Sends

@@ -1,0 +1,1 @@
+-- What a call of the receiver promises, through words. Assumes nothing.

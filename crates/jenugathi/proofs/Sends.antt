@@ -1,0 +1,37 @@
+-- What a call of the sender promises, through words: one law for the two offers and the draw. Assumes nothing.
+use Prim.Native.Nat.{ℕ}
+use mathlib.Core.List.{List}
+use mathlib.Core.Path.{_≡_, sym, subst, ap, _∙_}
+use Rattle.sender.specs.declared.Answer.{Answer}
+use Rattle.sender.specs.declared.Answer.the-variants.{Done, Refused}
+use Rattle.sender.specs.declared.Refusal.{Refusal}
+use Rattle.sender.specs.declared.Sender.{Sender}
+use Rattle.sender.specs.Answers.{number, Given, givenBy, Left}
+use Rattle.sender.specs.Opening.{Sound, SoundAnswer}
+use Rattle.sender.specs.Words.{wordsOf, ofWords}
+use Rattle.jenugathi.specs.Sending.{Told, told, Sent, sent, called, inWords}
+
+-- a refusal's number leaves the words; a sender's words are told with 0
+pub tells-refusal : (w : List ℕ) (a : Answer) (k : Refusal) (n : ℕ) → a ≡ Refused k → n ≡ number k → record { number = n; state = w } ≡ told w (givenBy a)
+tells-refusal w a k n e d = ap (λ (m : ℕ). record { number = m; state = w }) d ∙ ap (λ (x : Answer). told w (givenBy x)) (sym e)
+
+pub tells-sender : (w v : List ℕ) (a : Answer) (s : Sender) → a ≡ Done s → v ≡ wordsOf s → record { number = 0; state = v } ≡ told w (givenBy a)
+tells-sender w v a s e d = ap (λ (x : List ℕ). record { number = 0; state = x }) d ∙ ap (λ (x : Answer). told w (givenBy x)) (sym e)
+
+pub sound-of : (a : Answer) (s : Sender) → a ≡ Done s → SoundAnswer a → Sound s
+sound-of a s e h = subst SoundAnswer e h
+
+-- a: what the words are
+module _ (w b : List ℕ) (call : Sender → Left) (a : Answer) (e : givenBy a ≡ ofWords w) where
+  by : (x : Answer) → a ≡ x → sent w (called (givenBy x) b call) ≡ inWords w b call
+  by x d = ap (λ (g : Given). sent w (called g b call)) (ap givenBy (sym d) ∙ e)
+
+  -- none's: the call gives the number and leaves all as it was
+  pub forged : (k : Refusal) (n : ℕ) → a ≡ Refused k → n ≡ number k → record { number = n; state = w; buffer = b } ≡ inWords w b call
+  forged k n d f = ap (λ (m : ℕ). record { number = m; state = w; buffer = b }) f ∙ by (Refused k) d
+
+  -- a sender's: the call gives what its answer tells, in words
+  pub goes : (s : Sender) (q : Answer) (b′ v : List ℕ) (n : ℕ) → a ≡ Done s → record { given = givenBy q; buffer = b′ } ≡ call s
+      → record { number = n; state = v } ≡ told w (givenBy q) → record { number = n; state = v; buffer = b′ } ≡ inWords w b call
+  goes s q b′ v n d f t =
+      ap (λ (x : Told). record { number = x .number; state = x .state; buffer = b′ }) t ∙ ap (sent w) f ∙ by (Done s) d

@@ -1,0 +1,1 @@
+-- What the receiver's calls give to a program in C, over the definitions of crate `receiver`. Assumes nothing.
