@@ -1,4 +1,5 @@
 pub mod Bytes
 pub mod Composes
+pub mod Received
 pub mod Receives
 pub mod Sends

@@ -1,15 +1,19 @@
 -- What a call of the sender promises, through words: one law for the two offers and the draw. Assumes nothing.
 use Prim.Native.Nat.{ℕ}
+use mathlib.Core.Bool.{true}
 use mathlib.Core.List.{List}
+use native.Mathlib.Omega.{arith}
 use mathlib.Core.Path.{_≡_, sym, subst, ap, _∙_}
 use Rattle.sender.specs.declared.Answer.{Answer}
 use Rattle.sender.specs.declared.Answer.the-variants.{Done, Refused}
 use Rattle.sender.specs.declared.Refusal.{Refusal}
+use Rattle.sender.specs.declared.Refusal.the-variants.{Limits, Content, Long, Full, Buffer}
 use Rattle.sender.specs.declared.Sender.{Sender}
 use Rattle.sender.specs.Answers.{number, Given, givenBy, Left}
 use Rattle.sender.specs.Opening.{Sound, SoundAnswer}
-use Rattle.sender.specs.Words.{wordsOf, ofWords}
-use Rattle.jenugathi.specs.Sending.{Told, told, Sent, sent, called, inWords}
+use Rattle.sender.specs.Words.{wordsOf, senderIn, sound, ofWords}
+use Rattle.sender.proofs.Worded.{if-sound}
+use Rattle.jenugathi.specs.Sending.{Told, told, Sent, sent, called, inWords, Lasting}
 
 -- a refusal's number leaves the words; a sender's words are told with 0
 pub tells-refusal : (w : List ℕ) (a : Answer) (k : Refusal) (n : ℕ) → a ≡ Refused k → n ≡ number k → record { number = n; state = w } ≡ told w (givenBy a)
@@ -20,6 +24,24 @@ tells-sender w v a s e d = ap (λ (x : List ℕ). record { number = 0; state = x
 
 pub sound-of : (a : Answer) (s : Sender) → a ≡ Done s → SoundAnswer a → Sound s
 sound-of a s e h = subst SoundAnswer e h
+
+-- no refusal's number is 0, and a sound sender's words last
+not-0 : (k : Refusal) → number k ≡ 0 → ⊥
+not-0 Limits e = omega arith
+not-0 Content e = omega arith
+not-0 Long e = omega arith
+not-0 Full e = omega arith
+not-0 Buffer e = omega arith
+
+pub lasts-refused : (w : List ℕ) (a : Answer) (k : Refusal) (n : ℕ) → a ≡ Refused k → n ≡ number k → Lasting n w
+lasts-refused w a k n f d e = absurd (not-0 k (sym d ∙ e))
+
+lasts-sender : (s : Sender) → Sound s → sound (senderIn (wordsOf s)) ≡ true
+unfolding senderIn wordsOf
+lasts-sender s h = if-sound s h
+
+pub lasts : (v : List ℕ) (a : Answer) (s : Sender) → a ≡ Done s → SoundAnswer a → v ≡ wordsOf s → Lasting 0 v
+lasts v a s e h d z = ap (λ (x : List ℕ). sound (senderIn x)) d ∙ lasts-sender s (sound-of a s e h)
 
 -- a: what the words are
 module _ (w b : List ℕ) (call : Sender → Left) (a : Answer) (e : givenBy a ≡ ofWords w) where

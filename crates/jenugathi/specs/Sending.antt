@@ -1,9 +1,11 @@
 -- What the sender's calls give to a program in C (document 01, "Sender"), over the definitions of crate `sender`. Assumes nothing.
 use mathlib.Core.List.{List}
+use mathlib.Core.Bool.{true}
+use mathlib.Core.Path.{_≡_}
 use Prim.Native.Nat.{ℕ}
 use Rattle.sender.specs.declared.Sender.{Sender}
 use Rattle.sender.specs.Answers.{Given, done, refusal, Left, refused}
-use Rattle.sender.specs.Words.{wordsOf, ofWords}
+use Rattle.sender.specs.Words.{wordsOf, senderIn, sound, ofWords}
 
 -- document 01's number, 0 where there is no refusal, and the state's words: a refusal leaves them as they were
 pub record Told : Type 0 where
@@ -31,3 +33,7 @@ called (refusal n) b call = refused n b
 -- the call in words: w are the state's, b is the buffer that it may write
 abbrev pub inWords : List ℕ → List ℕ → (Sender → Left) → Sent
 inWords w b call = sent w (called (ofWords w) b call)
+
+-- the words that a call leaves with 0 are a sender's, so that the next call takes them
+abbrev pub Lasting : ℕ → List ℕ → Type 0
+Lasting n w = n ≡ 0 → sound (senderIn w) ≡ true

@@ -3,10 +3,10 @@ ghost use mathlib.Core.Path.{_≡_};
 ghost use Prim.Native.Nat.{min};
 ghost use lib.ListN.{length};
 ghost use Rattle.sender.specs.Answers.{number, givenBy};
-ghost use Rattle.sender.specs.Opening.{opened};
+ghost use Rattle.sender.specs.Opening.{opened, SoundAnswer};
 ghost use Rattle.sender.specs.Offering.{ordinaryOffered, lowOffered};
 ghost use Rattle.sender.specs.Drawing.{drew};
-ghost use Rattle.jenugathi.specs.Sending.{told, inWords};
+ghost use Rattle.jenugathi.specs.Sending.{told, inWords, Lasting};
 use sender::Answer;
 use sender::Refusal;
 
@@ -34,7 +34,9 @@ fn number_of(k: Refusal) -> u32
 
 // Tells an answer in words.
 fn tell(w: &mut [u64; 11], a: Answer) -> u32
+    requires { ⌜ SoundAnswer a ⌝ }
     ensures { λ r. ⌜ record { number = r; state = now (w .exit) } ≡ told (now (w .entry)) (givenBy a) ⌝ }
+    ensures { λ r. ⌜ Lasting r (now (w .exit)) ⌝ }
 {
     match a {
         Answer::Refused(k) => number_of(k),
@@ -56,6 +58,7 @@ pub extern "C" fn c7_sender_open(
     ordinary: &[u8],
 ) -> u32
     ensures { λ r. ⌜ record { number = r; state = now (w .exit) } ≡ told (now (w .entry)) (opened tp stream piece (length (now (low .entry))) (length (now (ordinary .entry)))) ⌝ }
+    ensures { λ r. ⌜ Lasting r (now (w .exit)) ⌝ }
 {
     tell(w, sender::open(tp, byte_of(stream), piece, low, ordinary))
 }
@@ -70,6 +73,7 @@ pub extern "C" fn c7_sender_offer(
     sp: &[u8],
 ) -> u32
     ensures { λ r. ⌜ record { number = r; state = now (w .exit); buffer = now (ordinary .exit) } ≡ inWords (now (w .entry)) (now (ordinary .entry)) (λ s. ordinaryOffered s (now (low .entry)) (now (ordinary .entry)) content (now (sp .entry))) ⌝ }
+    ensures { λ r. ⌜ Lasting r (now (w .exit)) ⌝ }
 {
     match sender::words::of_words(*w) {
         Answer::Refused(k) => number_of(k),
@@ -90,6 +94,7 @@ pub extern "C" fn c7_sender_offer_low(
     sp: &[u8],
 ) -> u32
     ensures { λ r. ⌜ record { number = r; state = now (w .exit); buffer = now (low .exit) } ≡ inWords (now (w .entry)) (now (low .entry)) (λ s. lowOffered s (now (low .entry)) (now (ordinary .entry)) content (now (sp .entry))) ⌝ }
+    ensures { λ r. ⌜ Lasting r (now (w .exit)) ⌝ }
 {
     match sender::words::of_words(*w) {
         Answer::Refused(k) => number_of(k),
@@ -106,6 +111,7 @@ pub extern "C" fn c7_sender_draw(
     tp: &mut [u8],
 ) -> u32
     ensures { λ r. ⌜ record { number = r; state = now (w .exit); buffer = now (tp .exit) } ≡ inWords (now (w .entry)) (now (tp .entry)) (λ s. drew s (now (low .entry)) (now (ordinary .entry)) (now (tp .entry))) ⌝ }
+    ensures { λ r. ⌜ Lasting r (now (w .exit)) ⌝ }
 {
     match sender::words::of_words(*w) {
         Answer::Refused(k) => number_of(k),

@@ -45,3 +45,5 @@ pub mod LowRead
 pub mod HandedLow
 pub mod Facts
 pub mod SinceLoss
+pub mod WordTests
+pub mod Worded

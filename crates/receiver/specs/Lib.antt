@@ -17,6 +17,8 @@ pub mod Turns
 pub mod Outset
 pub mod Pieces
 pub mod Turn
+-- a receiver as words, and back
+pub mod Words
 -- what the private functions promise one another, and nobody has to believe
 pub mod InWalk
 pub mod InOutset

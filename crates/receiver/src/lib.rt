@@ -15,6 +15,7 @@ mod pieces;
 mod stages;
 mod stamps;
 mod walk;
+pub mod words;
 
 use stages::Course;
 use stages::Stamps;

@@ -2,7 +2,7 @@
 use mathlib.Core.Path.{_∙_}
 use Rattle.sender.specs.declared.Sender.{Sender}
 use Rattle.sender.specs.Offering.{ordinaryOffered}
-use Rattle.jenugathi.proofs.Sends.{sound-of, forged, goes}
+use Rattle.jenugathi.proofs.Sends.{sound-of, forged, goes, lasts-refused}
 use Rattle.jenugathi.proofs.Bytes.{ordinary-byte}
 use borrow.Author.Needs.{needs}
 use Rattle.jenugathi.proofs.sending.c7_sender_offer.Statement.{statement}
@@ -27,12 +27,12 @@ offer-ordinary-requires : tie.Need-offer-ordinary-requires
 offer-ordinary-requires c κs = sound-of _ _ (c .before .before .before .before .s .given .1) (c .before .before .before .before .before .before .of-words .ensures .1)
 
 tell-requires : tie.Need-tell-requires
-tell-requires c κs = search needs
+tell-requires c κs = c .before .before .offer-ordinary .ensures .1
 
 returns : tie.Need-returns
 returns c =
     let a = c .before .before .before .before .before .before .before .before .before .args in
-    forged (a .w .now) (a .ordinary .now) (λ (s : Sender). ordinaryOffered s (a .low .now) (a .ordinary .now) (a .content) (a .sp .now)) _ (c .before .before .before .before .of-words .ensures .0) _ _ (c .before .before .k .given .1) (c .number-of .ensures)
+    (forged (a .w .now) (a .ordinary .now) (λ (s : Sender). ordinaryOffered s (a .low .now) (a .ordinary .now) (a .content) (a .sp .now)) _ (c .before .before .before .before .of-words .ensures .0) _ _ (c .before .before .k .given .1) (c .number-of .ensures), lasts-refused _ _ _ _ (c .before .before .k .given .1) (c .number-of .ensures))
 
 same-length : tie.Need-same-length
 same-length c = search needs
@@ -40,7 +40,7 @@ same-length c = search needs
 returns-2 : tie.Need-returns-2
 returns-2 c =
     let a = c .before .before .before .before .before .before .before .before .before .before .before .before .before .before .before .args in
-    goes (a .w .now) (a .ordinary .now) (λ (s : Sender). ordinaryOffered s (a .low .now) (a .ordinary .now) (a .content) (a .sp .now)) _ (c .before .before .before .before .before .before .before .before .before .before .of-words .ensures .0) _ (c .before .before .before .offer-ordinary .result) _ _ _ (c .before .before .before .before .before .before .before .before .s .given .1) (c .before .before .before .offer-ordinary .ensures .0 ∙ ordinary-byte _ _ _ (a .content) _ _ (c .before .before .before .before .byte-of .ensures)) (c .tell .ensures)
+    (goes (a .w .now) (a .ordinary .now) (λ (s : Sender). ordinaryOffered s (a .low .now) (a .ordinary .now) (a .content) (a .sp .now)) _ (c .before .before .before .before .before .before .before .before .before .before .of-words .ensures .0) _ (c .before .before .before .offer-ordinary .result) _ _ _ (c .before .before .before .before .before .before .before .before .s .given .1) (c .before .before .before .offer-ordinary .ensures .0 ∙ ordinary-byte _ _ _ (a .content) _ _ (c .before .before .before .before .byte-of .ensures)) (c .tell .ensures .0), c .tell .ensures .1)
 
 pub c7-sender-offer-spec : {M : Type 1} → statement M
 c7-sender-offer-spec =
