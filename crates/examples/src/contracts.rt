@@ -1,10 +1,10 @@
-// What a call, an offer and a draw promise, of functions that only hand it on: a wrong answer in the place of one is refused
-// by the contract alone.
+// What a call promises, and an offer and a draw of their answer and buffer, of functions that only hand it on: a wrong answer in
+// the place of one is refused by the contract alone.
 ghost use mathlib.Core.Path.{_≡_};
 ghost use Rattle.receiver.specs.State.{Able};
 ghost use Rattle.receiver.specs.Call.{callOf, Gives};
 ghost use Rattle.sender.specs.Answers.{givenBy};
-ghost use Rattle.sender.specs.Opening.{Sound, SoundAnswer};
+ghost use Rattle.sender.specs.Opening.{Sound};
 ghost use Rattle.sender.specs.Offering.{ordinaryOffered};
 ghost use Rattle.sender.specs.Drawing.{drew};
 use receiver::Receiver;
