@@ -7,6 +7,7 @@ ghost use Rattle.jenugathi.specs.Receiving.{sevenOf, findWords, orZero, 
 use receiver::About;
 use receiver::Find;
 use receiver::Opened;
+use receiver::swift::Swift;
 
 // A find's words: sort, content or number, start and length, and what it carries.
 fn seven(sort: u64, what: u8, start: usize, len: usize, a: About) -> [u64; 7]
@@ -99,13 +100,17 @@ pub extern "C" fn c7_receiver_next(
 ) -> u32
     ensures { λ n. ⌜ NextAs (ofWords (now (w .entry))) (now (w .entry)) (now (tp .entry)) (now (room .entry)) n (now (w .exit)) (now (find .exit)) (now (room .exit)) ⌝ }
 {
-    match receiver::words::of_words(w) {
-        Opened::Refused => {
-            *find = [1, 1, 0, 0, 0, 0, 0];
-            1
+    if !receiver::words::is_fit(w) {
+        *find = [1, 1, 0, 0, 0, 0, 0];
+        return 1;
+    }
+    match receiver::swift::next(w, tp, room) {
+        Swift::Gives { find: f, about: a } => {
+            *find = find_words(f, a);
+            number_of(f)
         }
-        Opened::Ready(r) => {
-            let q = receiver::next(r, tp, room);
+        Swift::Other => {
+            let q = receiver::next(receiver::words::receiver_in(w), tp, room);
             let s = q.receiver;
             let f = q.find;
             let a = q.about;

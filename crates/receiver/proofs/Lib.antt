@@ -49,3 +49,4 @@ pub mod Facts
 pub mod SinceLoss
 pub mod WordTests
 pub mod Worded
+pub mod Swiftly

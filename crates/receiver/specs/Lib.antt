@@ -22,5 +22,6 @@ pub mod Words
 -- what the private functions promise one another, and nobody has to believe
 pub mod InWalk
 pub mod InStride
+pub mod InSwift
 pub mod InOutset
 pub mod InStages

@@ -15,6 +15,7 @@ mod pieces;
 mod stages;
 mod stamps;
 mod stride;
+pub mod swift;
 mod walk;
 pub mod words;
 

@@ -64,7 +64,7 @@ fn fill_at(tp: &[u8], at: usize) -> Read
 }
 
 // Past fill, from `start` on.
-fn past_fill(tp: &[u8], start: usize) -> usize
+pub fn past_fill(tp: &[u8], start: usize) -> usize
     requires { ⌜ start ≤ length (now tp) ⌝ }
     ensures { λ r. ⌜ Skips (now (tp .entry)) start r ⌝ }
 {
@@ -132,7 +132,7 @@ fn past_middles(tp: &[u8], start: usize, content: u8, first: usize, room: &mut [
 }
 
 // The complete EP at `at`, of at most so many data. Its first byte ends in the bits 00.
-fn complete_at(tp: &[u8], at: usize, most: usize) -> Read
+pub fn complete_at(tp: &[u8], at: usize, most: usize) -> Read
     requires { ⌜ at ≤ length (now tp) ⌝ }
     ensures { λ r. ⌜ CompleteAt (now (tp .entry)) at most r ⌝ }
 {

@@ -14,13 +14,13 @@ use crate::walk::Phase;
 use crate::walk::Walk;
 use wire::Header;
 
-fn wide(b: u8) -> u64
+pub fn wide(b: u8) -> u64
     ensures { λ r. ⌜ (r ≡ b) × (b < 256) ⌝ }
 {
     b as u64
 }
 
-fn narrow(w: u64) -> u8
+pub fn narrow(w: u64) -> u8
     ensures { λ r. ⌜ r ≡ w % 256 ⌝ }
 {
     (w % 256) as u8
@@ -159,7 +159,7 @@ fn stage_in(sort: u64, offset: u64) -> Stage
     }
 }
 
-fn header_in(a: u64, b: u64, c: u64, d: u64) -> Header
+pub fn header_in(a: u64, b: u64, c: u64, d: u64) -> Header
     ensures { λ r. ⌜ r ≡ headerFrom a b c d ⌝ }
 {
     Header {
@@ -187,7 +187,7 @@ fn phase_in(sort: u64, a: u64, b: u64, c: u64, d: u64, left: u64) -> Phase
     }
 }
 
-fn place_in(number: u64, byte: u64, at: u64) -> Place
+pub fn place_in(number: u64, byte: u64, at: u64) -> Place
     ensures { λ r. ⌜ r ≡ placeIn number byte at ⌝ }
 {
     Place {
@@ -211,7 +211,7 @@ fn kept_in(sort: u64, content: u64, repaired: u64, len: u64, began: Place) -> Ke
 }
 
 // The receiver that words would be those of, if they are any's.
-fn receiver_in(w: &[u64; 23]) -> Receiver
+pub fn receiver_in(w: &[u64; 23]) -> Receiver
     ensures { λ q. ⌜ q ≡ receiverIn (now (w .entry)) ⌝ }
 {
     let stage = stage_in(w[5], w[6]);
@@ -341,7 +341,7 @@ fn left_in(sort: u64, left: u64) -> u64
     }
 }
 
-fn is_fit(w: &[u64; 23]) -> bool
+pub fn is_fit(w: &[u64; 23]) -> bool
     ensures { λ r. ⌜ r ≡ fitb (now (w .entry)) ⌝ }
 {
     if !is_opened(w[0], w[1], w[2], w[4]) {
