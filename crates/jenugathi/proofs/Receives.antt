@@ -5,16 +5,21 @@ use mathlib.Core.List.{List}
 use mathlib.Core.Path.{_≡_, refl, sym, subst, ap, _∙_}
 use lib.Dec.{ltb}
 use borrow.Author.Tests.{lt-ltb}
+use Rattle.receiver.specs.declared.About.{About}
+use Rattle.receiver.specs.declared.Find.{Find}
 use Rattle.receiver.specs.declared.Find.the-variants as F
 use Rattle.receiver.specs.declared.Opened.{Opened}
 use Rattle.receiver.specs.declared.Opened.the-variants as O
 use Rattle.receiver.specs.declared.Receiver.{Receiver}
 use Rattle.receiver.specs.declared.Step.{Step}
+use Rattle.receiver.specs.declared.swift.Swift.{Swift}
+use Rattle.receiver.specs.declared.swift.Swift.the-variants as S
 use Rattle.receiver.specs.Call.{Answered, Gives, OpenedAs, answeredOf, callOf, findNumber, freshOf, gapOf, openingOf, outside}
 use Rattle.receiver.specs.Place.{ownOf, startOf}
 use Rattle.receiver.specs.State.{Able}
-use Rattle.receiver.specs.Words.{Bytes, Fit, FitIf, ofWords, wordsOf}
-use Rattle.receiver.proofs.Worded.{opens-still}
+use Rattle.receiver.specs.Words.{Bytes, Fit, FitIf, fitb, ofWords, receiverIn, wordsOf}
+use Rattle.receiver.specs.InSwift.{Done, SwiftAs}
+use Rattle.receiver.proofs.Worded.{accepted, opens-still, refused}
 use Rattle.jenugathi.specs.Receiving.{NextAs, findWords, gappedTo, openedTo, orZero}
 
 -- ---- an opening
@@ -80,3 +85,32 @@ module _ (w : List ℕ) (o : Opened) (a : o ≡ ofWords w) where
           state = b .0;
           find = d;
         })
+
+-- ---- the three ways of a call: words of none, a call on the words, a call by value
+module _ (w tp m₀ : List ℕ) where
+  pub unfit : (t : Bool) (f : List ℕ) → t ≡ fitb w → t ≡ false → f ≡ findWords F.Refused (record { repaired = 0; at = startOf (ownOf 0) }) → NextAs (ofWords w) w tp m₀ 1 w f m₀
+  unfit t f a b d = stays w O.Refused (refused w t a b .0) tp m₀ f refl d
+
+  module _ (t : Bool) (a : t ≡ fitb w) (b : t ≡ true) where
+    pub swiftly : (x : Swift) (v m f : List ℕ) (n : ℕ) (g : Find) (c : About) → SwiftAs x (receiverIn w) w tp m₀ v m → x ≡ S.Gives g c → f ≡ findWords g c → n ≡ orZero (findNumber g)
+        → NextAs (ofWords w) w tp m₀ n v f m
+    swiftly x v m f n g c s e d k =
+        let y : Done (receiverIn w) tp m₀ g c v m = subst (λ (z : Swift). SwiftAs z (receiverIn w) w tp m₀ v m) e s in
+        let z = accepted w t (receiverIn w) a b refl in
+        tells w (O.Ready (receiverIn w)) (z .0) tp m₀ (receiverIn w) (y .step) n v f m refl (z .1) (y .gives) (y .state, y .bytes)
+        (d ∙ ap (λ (h : Find). findWords h c) (y .find) ∙ ap (λ (h : About). findWords (y .step .find) h) (y .about)) (k ∙ ap (λ (h : Find). orZero (findNumber h)) (y .find))
+
+    pub by-value : (x : Swift) (u m₁ v m f : List ℕ) (n : ℕ) (r : Receiver) (q : Step) → SwiftAs x (receiverIn w) w tp m₀ u m₁ → x ≡ S.Other → r ≡ receiverIn u → Gives (callOf r tp m₁) q tp m
+        → (v ≡ wordsOf (q .receiver)) × Bytes (q .receiver) → f ≡ findWords (q .find) (q .about) → n ≡ orZero (findNumber (q .find)) → NextAs (ofWords w) w tp m₀ n v f m
+    by-value x u m₁ v m f n r q s e c g h d k =
+        let y : (u ≡ w) × (m₁ ≡ m₀) = subst (λ (z : Swift). SwiftAs z (receiverIn w) w tp m₀ u m₁) e s in
+        let z = accepted w t (receiverIn w) a b refl in
+        let i : r ≡ receiverIn w = c ∙ ap receiverIn (y .0) in
+        tells w (O.Ready (receiverIn w)) (z .0) tp m₀ (receiverIn w) q n v f m refl (z .1) (rw (i, y .1) at g) h d k
+
+    pub able-still : (x : Swift) (u m₁ : List ℕ) (r : Receiver) → SwiftAs x (receiverIn w) w tp m₀ u m₁ → x ≡ S.Other → r ≡ receiverIn u → Able r
+    able-still x u m₁ r s e c =
+        let y : (u ≡ w) × (m₁ ≡ m₀) = subst (λ (z : Swift). SwiftAs z (receiverIn w) w tp m₀ u m₁) e s in
+        let z = accepted w t (receiverIn w) a b refl in
+        let i : r ≡ receiverIn w = c ∙ ap receiverIn (y .0) in
+        subst Able (sym i) (z .1 .able)

@@ -90,7 +90,8 @@ pub extern "C" fn c7_receiver_gap(w: &mut [u64; 23]) -> u32
     }
 }
 
-// The next find of the TP, and its number. Words of no receiver give 1, and only the find is written.
+// The next find of the TP, and its number: on the words, or by value where something is to be judged. Words of no receiver
+// give 1, and only the find is written.
 #[no_mangle]
 pub extern "C" fn c7_receiver_next(
     w: &mut [u64; 23],

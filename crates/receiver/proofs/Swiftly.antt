@@ -6,7 +6,7 @@ use mathlib.Core.List.{List}
 use Prim.Native.Nat.{ℕ, _+_, _-_, _≤_, _<_, min}
 use native.Mathlib.Omega.{arith}
 use lib.ListN.{drop, getD, length, length-drop, take}
-use borrow.Author.Tests.{eqb-true}
+use borrow.Author.Tests.{eqb-true, le-ltb}
 use lib.Dec.{eqb}
 use Rattle.queue.specs.Ring.{copied}
 use Rattle.wire.specs.declared.Header.{Header}
@@ -18,10 +18,11 @@ use Rattle.receiver.specs.declared.Stage.{Stage}
 use Rattle.receiver.specs.declared.Stage.the-variants.{Fresh, Plain}
 use Rattle.receiver.specs.declared.Stamp.{Stamp}
 use Rattle.receiver.specs.declared.Step.{Step}
-use Rattle.receiver.specs.declared.entry.Top.the-variants.{Says}
+use Rattle.receiver.specs.declared.entry.Top.the-variants.{Dropped, Says}
 use Rattle.receiver.specs.declared.kind.Kind.{Kind}
 use Rattle.receiver.specs.declared.kind.Kind.the-variants.{Complete, Fill, First, Last, Middle, Reserved}
-use Rattle.receiver.specs.declared.outset.Fore.the-variants.{At}
+use Rattle.receiver.specs.declared.outset.Fore.the-variants.{At, Off}
+use Rattle.receiver.specs.declared.outset.Offset.the-variants.{Behind}
 use Rattle.receiver.specs.declared.outset.Start.the-variants as O
 use Rattle.receiver.specs.declared.stages.Course.the-variants as C
 use Rattle.receiver.specs.declared.entry.Begun.the-variants as B
@@ -36,35 +37,37 @@ use Rattle.receiver.specs.declared.walk.Gain.the-variants.{Nothing, Pack
 use Rattle.receiver.specs.declared.walk.Kept.{Kept}
 use Rattle.receiver.specs.declared.walk.Kept.the-variants.{Empty, Of}
 use Rattle.receiver.specs.declared.walk.Phase.{Phase}
-use Rattle.receiver.specs.declared.walk.Phase.the-variants.{Body, Head}
+use Rattle.receiver.specs.declared.walk.Phase.the-variants.{Body, Head, Lost}
 use Rattle.receiver.specs.declared.walk.Turn.{Turn}
 use Rattle.receiver.specs.declared.walk.Turn.the-variants.{Stop}
 use Rattle.receiver.specs.declared.walk.Walk.{Walk}
 use Rattle.receiver.specs.Call.{Gives, callOf, countIn, countedOf, stageCall, stampsOf, walkTo}
 use Rattle.receiver.specs.InOutset.{aheadOf}
+use Rattle.receiver.specs.InStages as Stages
 use Rattle.receiver.specs.InStages.{Leads}
 use Rattle.receiver.specs.InStride.{EpAt, Skips, Strides, between}
-use Rattle.receiver.specs.InSwift.{Behind, BehindAs, Busy, Done, FreeAs, FromAs, Idle, IdleIf, Lent, Reads, betweenAt, cutAnswer, handsBy, handsOf, madeOf, wholeAnswer}
+use Rattle.receiver.specs.InSwift as I
+use Rattle.receiver.specs.InSwift.{Astray, AstrayIf, BehindAs, Busy, Done, FreeAs, FromAs, Idle, IdleIf, Lent, Reads, betweenAt, cutAnswer, handsBy, handsOf, lostWalk, madeOf, wholeAnswer}
 use Rattle.receiver.specs.InWalk.{Carries, Ends, roomOf}
 use Rattle.receiver.specs.Kind.{kindOf}
-use Rattle.receiver.specs.Outset.{foreOf}
-use Rattle.receiver.specs.Pieces.{noneOf, tellOf}
+use Rattle.receiver.specs.Outset.{foreOf, placeOf, setOutOf, uponOf}
+use Rattle.receiver.specs.Pieces.{noneOf, stepOf, tellOf, topOf}
 use Rattle.receiver.specs.Place.{ownOf, placeAt, startOf}
 use Rattle.receiver.specs.State.{Sound}
 use Rattle.receiver.specs.Turns.{advanceOf, bodyTurn, finishOf, grownBy, headerTurn, stops, walkAt}
-use Rattle.receiver.specs.Words.{Bytes, fitb, headWords, keptIn, phaseIn, receiverIn, wordsOf}
+use Rattle.receiver.specs.Words.{Bytes, fitb, headWords, keptIn, phaseIn, receiverIn, stageIn, wordsOf}
 use Rattle.receiver.proofs.Advancing.{body-cut, body-read}
-use Rattle.receiver.proofs.Answering.{call-reads}
+use Rattle.receiver.proofs.Answering.{call-gives, call-reads}
 use Rattle.receiver.proofs.Bodies.{advance-carries}
 use Rattle.receiver.proofs.Foretelling.{ahead-fore, body-fore}
 use Rattle.receiver.proofs.Gather.{put-is}
 use Rattle.receiver.proofs.Heading as H
 use Rattle.receiver.proofs.Parting.{behind-in, due-behind, set-reads}
-use Rattle.receiver.proofs.SettingOut.{set-agree}
+use Rattle.receiver.proofs.SettingOut.{set-agree, set-by}
 use Rattle.receiver.proofs.Standing.{taken-cut, taken-put, taken-whole}
 use Rattle.receiver.proofs.Striding.{free-complete}
 use Rattle.receiver.proofs.Worded.{fits}
-use Rattle.receiver.proofs.TakingUp.{counted-lent, first-begins, first-lent, firstBy, part-leads, plain-begins, plain-leads, top-begins}
+use Rattle.receiver.proofs.TakingUp.{counted-lent, find-leads, first-begins, first-lent, firstBy, part-leads, plain-begins, plain-leads, top-begins}
 
 no : false ≡ true → ⊥
 no e = subst (λ (t : Bool). cond t ⊥ ℕ) e 0
@@ -111,7 +114,7 @@ module _ (tp m m′ : List ℕ) (bytes : H.Bytes tp) (start from : ℕ) (s : Ski
 pub free-as : (x y : Free) (start : ℕ) (tp m m′ : List ℕ) → FreeAs x start tp m m′ → x ≡ y → FreeAs y start tp m m′
 free-as x y start tp m m′ f e = subst (λ (z : Free). FreeAs z start tp m m′) e f
 
-pub behind-of : (x : Begun) (stream : ℕ) (tp : List ℕ) (n : ℕ) → BehindAs x stream tp → x ≡ U.Behind n → Behind stream tp n
+pub behind-of : (x : Begun) (stream : ℕ) (tp : List ℕ) (n : ℕ) → BehindAs x stream tp → x ≡ U.Behind n → I.Behind stream tp n
 behind-of x stream tp n b e = subst (λ (z : Begun). BehindAs z stream tp) e b
 
 pub reads-of : (x : From) (r : Receiver) (tp : List ℕ) (start count : ℕ) → FromAs x r tp → x ≡ W.Is start count → Reads r tp start count
@@ -124,6 +127,13 @@ idle-if ws a b = go (eqb (getD ws 16 0) 0) refl
     go true e = (a, b, eqb-true (getD ws 16 0) 0 e)
     go false e = omega arith
 
+pub astray-if : (ws : List ℕ) → getD ws 7 0 ≡ 0 → getD ws 16 0 ≡ 0 → AstrayIf (eqb (getD ws 5 0) 0) ws
+astray-if ws a b = go (eqb (getD ws 5 0) 0) refl
+  where
+    go : (x : Bool) → eqb (getD ws 5 0) 0 ≡ x → AstrayIf x ws
+    go true e = (a, b, eqb-true (getD ws 5 0) 0 e)
+    go false e = omega arith
+
 -- ---- where reading goes on
 
 module _ (r : Receiver) (tp : List ℕ) (l : Lent r tp) where
@@ -133,25 +143,28 @@ module _ (r : Receiver) (tp : List ℕ) (l : Lent r tp) where
   abbrev t : Stamp
   t = stampsOf r .now
 
-  -- what the forecast agrees to, in a TP without low-latency part
-  fresh-leads : (n : ℕ) → r .stage ≡ Fresh → Behind (r .stream) tp n → foreOf (r .walk .phase) (drop 4 tp) ≡ At n
-      → Leads (stageCall (r .stage) r c (stampsOf r) tp) c t tp (C.Reads (walkTo c 4))
-  fresh-leads n e b f =
+  -- what the forecast decides, in a TP without low-latency part
+  fresh-by : (n o : ℕ) (x : Walk) → r .stage ≡ Fresh → topOf (r .stream) tp ≡ Says false o → placeOf o 4 (length tp) ≡ Behind n → O.Reads x ≡ setOutOf (walkTo c 4) n tp
+      → Leads (stageCall (r .stage) r c (stampsOf r) tp) c t tp (C.Reads x)
+  fresh-by n o x e top place s =
       let size = l .able .size in
       let whole = l .whole in
       let lent = first-lent r (stampsOf r) tp (l .able) whole e in
       let more = counted-lent r 4 tp lent in
-      let begins = first-begins r (stampsOf r) tp (B.Part false (b .offset) 4) e (top-begins r (stampsOf r) tp (Says false (b .offset)) (b .top) (l .able) lent) in
-      let within = behind-in (b .offset) 4 (length tp) n (omega arith) (b .place) in
-      part-leads (stageCall (r .stage) r c (stampsOf r) tp) c t tp (B.Part false (b .offset) 4) begins false (b .offset) 4 (C.Reads (walkTo c 4)) refl
-      (due-behind c t (b .offset) 4 tp more (C.Reads (walkTo c 4)) n (b .place)
-      (set-reads c t 4 n tp (O.Reads (walkTo c 4)) more (walkTo c 4) within (set-agree (walkTo c 4) n tp n f refl) refl))
+      let begins = first-begins r (stampsOf r) tp (B.Part false o 4) e (top-begins r (stampsOf r) tp (Says false o) top (l .able) lent) in
+      let within = behind-in o 4 (length tp) n (omega arith) place in
+      part-leads (stageCall (r .stage) r c (stampsOf r) tp) c t tp (B.Part false o 4) begins false o 4 (C.Reads x) refl
+      (due-behind c t o 4 tp more (C.Reads x) n place (set-reads c t 4 n tp (O.Reads x) more x within s refl))
+
+  fresh-leads : (n : ℕ) → r .stage ≡ Fresh → I.Behind (r .stream) tp n → foreOf (r .walk .phase) (drop 4 tp) ≡ At n
+      → Leads (stageCall (r .stage) r c (stampsOf r) tp) c t tp (C.Reads (walkTo c 4))
+  fresh-leads n e b f = fresh-by n (b .offset) (walkTo c 4) e (b .top) (b .place) (set-agree (walkTo c 4) n tp n f refl)
 
   module _ (i : Idle r) where
     idle-at : (at : ℕ) → walkAt at (r .walk .phase) (r .walk .began) (r .walk .kept) ≡ between at (r .walk .began) Empty
     idle-at at = ap (λ (p : Phase). walkAt at p (r .walk .began) (r .walk .kept)) (i .phase) ∙ ap (walkAt at (Head 0 0) (r .walk .began)) (i .kept)
 
-    pub fresh-reads : (n count : ℕ) → r .stage ≡ Fresh → Behind (r .stream) tp n → n ≡ 0 → count ≡ countIn Fresh (r .count) → Reads r tp 4 count
+    pub fresh-reads : (n count : ℕ) → r .stage ≡ Fresh → I.Behind (r .stream) tp n → n ≡ 0 → count ≡ countIn Fresh (r .count) → Reads r tp 4 count
     unfolding aheadOf
     fresh-reads n count e b z k =
         let size = l .able .size in
@@ -183,6 +196,55 @@ module _ (r : Receiver) (tp : List ℕ) (l : Lent r tp) where
         → Gives (callOf r tp m₀) (tellOf (a .gain) c t (a .walk)) tp m
     unfolding callOf
     reads-gives x a g e = call-reads r (stampsOf r) tp m m₀ (C.Reads x) x a (l .able .size) full (l .whole) g refl e same
+
+    -- ---- out of step
+
+    module _ (b : Astray r) (count : ℕ) (k : count ≡ countIn Fresh (r .count)) (z : m ≡ m₀) (s : w ≡ wordsOf (madeOf r count Fresh lostWalk)) where
+      abbrev lent : Stages.Lent r 4 tp
+      lent = first-lent r (stampsOf r) tp (l .able) (l .whole) (b .stage)
+
+      held : count ≡ c .count
+      held = k ∙ ap (λ (s : Stage). countIn s (r .count)) (sym (b .stage))
+
+      pub gone-done : (n : ℕ) → topOf (r .stream) tp ≡ Dropped n → Done r tp m₀ (G.Notice n) (noneOf (startOf (ownOf count))) w m
+      unfolding callOf wordsOf
+      gone-done n e =
+          let q = stepOf c Fresh 0 Lost Empty (G.Notice n) (startOf t) in
+          let begins = first-begins r (stampsOf r) tp (B.Gives q) (b .stage) (top-begins r (stampsOf r) tp (Dropped n) e (l .able) lent) in
+          let leads = find-leads (stageCall (r .stage) r c (stampsOf r) tp) c t tp (B.Gives q) begins q refl in
+          rw held (record {
+            step = q;
+            gives = rw z (call-gives r (stampsOf r) tp m₀ (C.Gives q) q full (l .whole) leads refl);
+            bytes = record { phase = omega arith; kept = omega arith };
+            state = rw held at s;
+            find = refl;
+            about = refl;
+          })
+
+      pub lost-done : H.Bytes tp → (o : ℕ) → topOf (r .stream) tp ≡ Says false o → o ≡ 2047 → Done r tp m₀ G.Nothing (noneOf (startOf (ownOf count))) w m
+      unfolding wordsOf foreOf placeOf uponOf Carries advanceOf roomOf
+      lost-done bytes o e f =
+          let size = l .able .size in
+          let whole = l .whole in
+          let n = length tp - 4 in
+          let fore : foreOf (r .walk .phase) (drop 4 tp) ≡ Off = ap (λ (p : Phase). foreOf p (drop 4 tp)) (b .phase) in
+          let place : placeOf o 4 (length tp) ≡ Behind n = rw f in
+          let x : Walk = record { at = 4 + n; phase = uponOf (4 + n) (length tp); began = r .walk .began; kept = r .walk .kept } in
+          let g = fresh-by n o x (b .stage) e place (set-by (walkTo c 4) n tp Off fore) in
+          let y : uponOf (4 + n) (length tp) ≡ Lost = rw (le-ltb (4 + n) (length tp) (omega arith)) in
+          let v : Walk = walkAt (4 + n) Lost (r .walk .began) Empty in
+          let u : x ≡ v = ap (λ (p : Phase). walkAt (4 + n) p (r .walk .began) (r .walk .kept)) y ∙ ap (walkAt (4 + n) Lost (r .walk .began)) (b .kept) in
+          let a : Answer = record { walk = walkAt (length tp) Lost (r .walk .began) Empty; gain = Nothing } in
+          let sound : Sound (length m₀) (length tp) v = record { at = omega arith; phase = omega arith } in
+          let h : Ends (length m₀) t v tp m₀ a m₀ = advance-carries (length m₀) t tp m₀ refl bytes v sound in
+          rw held (record {
+            step = tellOf Nothing c t (a .walk);
+            gives = reads-gives v a (subst (λ (w : Walk). Leads (stageCall (r .stage) r c (stampsOf r) tp) c t tp (C.Reads w)) u g) (rw z h);
+            bytes = record { phase = omega arith; kept = omega arith };
+            state = rw held at s;
+            find = refl;
+            about = refl;
+          })
 
     module _ (start count : ℕ) (d : Reads r tp start count) where
       pub whole-done : (h : Header) (from end : ℕ) → Ends (length m₀) (ownOf count) (between start (r .walk .began) Empty) tp m₀ (wholeAnswer (ownOf count) h from end) m
@@ -238,7 +300,7 @@ module _ (r : Receiver) (tp : List ℕ) (l : Lent r tp) where
     pub kept-in : (h : Header) (left cc e : ℕ) (g : Place) (len : ℕ) → Busy r h left cc e g len → len + left ≤ length m₀
     kept-in h left cc e g len b = let f = rw (b .phase, b .kept) at (l .able .walk .phase) in omega (arith, f, full)
 
-    module _ (h : Header) (left cc e : ℕ) (g : Place) (len n count : ℕ) (b : Busy r h left cc e g len) (bytes : H.Bytes tp) (d : Behind (r .stream) tp n) (least : min left (length tp - 4) ≡ n)
+    module _ (h : Header) (left cc e : ℕ) (g : Place) (len n count : ℕ) (b : Busy r h left cc e g len) (bytes : H.Bytes tp) (d : I.Behind (r .stream) tp n) (least : min left (length tp - 4) ≡ n)
         (k : count ≡ countIn Fresh (r .count)) (put : m ≡ copied m₀ len (take (4 + n - 4) (drop 4 tp))) where
       abbrev x : Walk
       x = walkAt 4 (Body h left) (r .walk .began) (Of cc e g len)
@@ -318,7 +380,14 @@ module _ (r : Receiver) (tp : List ℕ) (l : Lent r tp) where
 pub idle-of : (b : Bool) (ws : List ℕ) → IdleIf b ws → b ≡ true → IdleIf true ws
 idle-of b ws i e = subst (λ (x : Bool). IdleIf x ws) e i
 
+pub astray-of : (b : Bool) (ws : List ℕ) → AstrayIf b ws → b ≡ true → AstrayIf true ws
+astray-of b ws i e = subst (λ (x : Bool). AstrayIf x ws) e i
+
 module _ (ws : List ℕ) where
+  pub words-astray : AstrayIf true ws → Astray (receiverIn ws)
+  unfolding receiverIn phaseIn keptIn stageIn
+  words-astray i = record { stage = rw (i .2); phase = rw (i .0); kept = rw (i .1) }
+
   pub words-lent : (tp : List ℕ) → fitb ws ≡ true → length tp ≡ getD ws 0 0 → Lent (receiverIn ws) tp
   unfolding receiverIn
   words-lent tp f e = record { able = fits ws f .able; whole = e }

@@ -30,7 +30,7 @@ use Rattle.receiver.specs.declared.swift.Swift.the-variants as S
 use Rattle.receiver.specs.declared.walk.Answer.{Answer}
 use Rattle.receiver.specs.declared.walk.Gain.the-variants.{Nothing, Packet}
 use Rattle.receiver.specs.declared.walk.Kept.the-variants.{Empty, Of}
-use Rattle.receiver.specs.declared.walk.Phase.the-variants.{Head, Body}
+use Rattle.receiver.specs.declared.walk.Phase.the-variants.{Lost, Head, Body}
 use Rattle.receiver.specs.declared.walk.Walk.{Walk}
 use Rattle.receiver.specs.Call.{Gives, callOf, countedOf, stageCall, stampsOf}
 use Rattle.receiver.specs.InStages.{Leads}
@@ -60,7 +60,17 @@ pub record Busy (r : Receiver) (h : Header) (left c e : ℕ) (g : Place) (n : �
   pub phase : r .walk .phase ≡ Body h left
   pub kept : r .walk .kept ≡ Of c e g n
 
+-- before a TP, out of step with nothing kept
+pub record Astray (r : Receiver) : Type 0 where
+  pub stage : r .stage ≡ Fresh
+  pub phase : r .walk .phase ≡ Lost
+  pub kept : r .walk .kept ≡ Empty
+
 -- by the words
+abbrev pub AstrayIf : Bool → List ℕ → Type 0
+AstrayIf false ws = 0 ≤ 0
+AstrayIf true ws = (getD ws 7 0 ≡ 0) × (getD ws 16 0 ≡ 0) × (getD ws 5 0 ≡ 0)
+
 abbrev pub IdleIf : Bool → List ℕ → Type 0
 IdleIf false ws = 0 ≤ 0
 IdleIf true ws = (getD ws 7 0 ≡ 1) × (getD ws 8 0 ≡ 0) × (getD ws 16 0 ≡ 0)
@@ -120,6 +130,9 @@ madeOf r count stage walk = record { size = r .size; stream = r .stream; limit =
 abbrev pub betweenAt : ℕ → Walk
 betweenAt at = between at (startOf (ownOf 0)) Empty
 
+abbrev pub lostWalk : Walk
+lostWalk = walkAt 0 Lost (startOf (ownOf 0)) Empty
+
 -- a call that is done: a step that it promises, whose find and words these are
 pub record Done (r : Receiver) (tp m₀ : List ℕ) (f : Find) (a : About) (w m : List ℕ) : Type 0 where
   pub step : Step
@@ -133,3 +146,7 @@ pub record Done (r : Receiver) (tp m₀ : List ℕ) (f : Find) (a : About) (w m 
 abbrev pub SwiftAs : Swift → Receiver → List ℕ → List ℕ → List ℕ → List ℕ → List ℕ → Type 0
 SwiftAs S.Other r w₀ tp m₀ w m = (w ≡ w₀) × (m ≡ m₀)
 SwiftAs (S.Gives f a) r w₀ tp m₀ w m = Done r tp m₀ f a w m
+
+-- whatever room is lent
+abbrev pub AstrayAs : Swift → Receiver → List ℕ → List ℕ → List ℕ → Type 0
+AstrayAs q r w₀ tp w = (m : List ℕ) → length m ≡ r .limit → SwiftAs q r w₀ tp m w m

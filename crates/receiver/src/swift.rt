@@ -1,5 +1,5 @@
-// A call on a receiver's words, where it stands between two EPs with nothing kept, or before a TP in data that are kept: only
-// the words that it needs are read. Any other receiver, and whatever is to be judged, is left as it was to a call by value.
+// A call on a receiver's words, where it stands between two EPs with nothing kept, or before a TP in data that are kept or out
+// of step: only the words that it needs are read. Any other receiver, and whatever is to be judged, is left as it was to a call by value.
 ghost use mathlib.Core.Path.{_≡_};
 ghost use mathlib.Core.Bool.{true};
 ghost use Prim.Native.Nat.{_≤_};
@@ -9,7 +9,7 @@ ghost use Rattle.receiver.specs.declared.swift.Swift.the-variants as S;
 ghost use Rattle.receiver.specs.Place.{ownOf, startOf};
 ghost use Rattle.receiver.specs.Pieces.{noneOf};
 ghost use Rattle.receiver.specs.Words.{Bytes, fitb, receiverIn, wordsOf};
-ghost use Rattle.receiver.specs.InSwift.{Lent, Idle, Busy, FreeAs, BehindAs, FromAs, handsOf, SwiftAs, IdleIf, madeOf, betweenAt};
+ghost use Rattle.receiver.specs.InSwift.{Lent, Idle, Busy, FreeAs, BehindAs, FromAs, handsOf, SwiftAs, Astray, AstrayAs, IdleIf, AstrayIf, madeOf, betweenAt, lostWalk};
 use crate::About;
 use crate::Find;
 use crate::Place;
@@ -336,6 +336,59 @@ fn busy(w: &mut [u64; 23], r: Receiver, tp: &[u8], room: &mut [u8]) -> Swift
     busy_next(w, r, header, left, held, tp, room)
 }
 
+// Out of step; where an EP began nobody looks.
+fn lost() -> Walk
+    ensures { λ q. ⌜ q ≡ lostWalk ⌝ }
+{
+    Walk {
+        at: 0,
+        phase: Phase::Lost,
+        began: stamps::start(stamps::own(0)),
+        kept: Kept::Empty,
+    }
+}
+
+// Before a TP out of step, if the TP is dropped for its header or says no place to get into step: no room is touched.
+fn lost_next(w: &mut [u64; 23], r: Receiver, tp: &[u8]) -> Swift
+    requires { ⌜ Lent r (now tp) × Astray r ⌝ }
+    ensures { λ q. ⌜ AstrayAs q r (now (w .entry)) (now (tp .entry)) (now (w .exit)) ⌝ }
+{
+    let count = stamps::counted(r.count);
+    match entry::read_top(r.stream, tp) {
+        Top::Elsewhere => Swift::Other,
+        Top::Dropped(number) => {
+            put(w, r, count, Stage::Fresh, lost());
+            let at = stamps::start(stamps::own(count));
+            let about = About { repaired: 0, at };
+            let find = Find::Notice(number);
+            Swift::Gives { find, about }
+        }
+        Top::Says { low, offset } => {
+            if low {
+                return Swift::Other;
+            }
+            if offset != 2047 {
+                return Swift::Other;
+            }
+            put(w, r, count, Stage::Fresh, lost());
+            nothing(count)
+        }
+    }
+}
+
+// Before a TP out of step with nothing kept, by the words.
+fn is_lost(w: &[u64; 23]) -> bool
+    ensures { λ r. ⌜ AstrayIf r (now (w .entry)) ⌝ }
+{
+    if w[7] != 0 {
+        return false;
+    }
+    if w[16] != 0 {
+        return false;
+    }
+    w[5] == 0
+}
+
 // Between two EPs with nothing kept, by the words.
 fn is_idle(w: &[u64; 23]) -> bool
     ensures { λ r. ⌜ IdleIf r (now (w .entry)) ⌝ }
@@ -373,6 +426,9 @@ pub fn next(w: &mut [u64; 23], tp: &[u8], room: &mut [u8]) -> Swift
     }
     if is_busy(w) {
         return busy(w, words::receiver_in(w), tp, room);
+    }
+    if is_lost(w) {
+        return lost_next(w, words::receiver_in(w), tp);
     }
     Swift::Other
 }

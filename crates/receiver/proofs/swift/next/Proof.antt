@@ -1,6 +1,6 @@
 -- `receiver::swift::next` meets its contract, by the receiver whose words these are.
 -- Assumes nothing.
-use Rattle.receiver.proofs.Swiftly.{idle-of, words-full, words-idle, words-lent}
+use Rattle.receiver.proofs.Swiftly.{astray-of, idle-of, words-astray, words-full, words-idle, words-lent}
 use borrow.Author.Needs.{needs}
 use Rattle.receiver.proofs.swift.next.Statement.{statement}
 use Rattle.receiver.proofs.swift.next.Tie as tie
@@ -53,8 +53,27 @@ same-length-2 c = search needs
 returns-4 : tie.Need-returns-4
 returns-4 c = rw (c .before .before .before .before .receiver-in2 .ensures) at (c .before .before .busy .ensures)
 
+is-lost-requires : tie.Need-is-lost-requires
+is-lost-requires c κs = search needs
+
+receiver-in-requires-3 : tie.Need-receiver-in-requires-3
+receiver-in-requires-3 c κs = search needs
+
+lost-next-requires : tie.Need-lost-next-requires
+lost-next-requires c κs =
+    let s = c .before .before .before .before .before .before .before .before .before .before .before .before .before .before .before .before .before .before in
+    let a = s .args in
+    rw (c .receiver-in3 .ensures) (words-lent (a .w .now) (a .tp .now) (s .pre) (c .before .before .before .before .before .before .before .before .before .before .before .before .if2 .left), words-astray (a .w .now) (astray-of _ (a .w .now) (c .before .before .before .before .is-lost .ensures) (c .before .before .before .if5 .taken)))
+
 returns-5 : tie.Need-returns-5
-returns-5 c = search needs
+returns-5 c =
+    let s = c .before .before .before .before .before .before .before .before .before .before .before .before .before .before .before .before .before .before .before in
+    let a = s .args in
+    let f = rw (c .before .receiver-in3 .ensures) at (c .lost-next .ensures) in
+    f (a .room .now) (words-full (a .w .now) (a .room .now) (c .before .before .before .before .before .before .before .before .before .before .before .before .before .before .before .if1 .left))
+
+returns-6 : tie.Need-returns-6
+returns-6 c = search needs
 
 pub next-spec : {M : Type 1} → statement M
 next-spec =
@@ -74,4 +93,8 @@ next-spec =
     busy-requires
     same-length-2
     returns-4
-    returns-5)
+    is-lost-requires
+    receiver-in-requires-3
+    lost-next-requires
+    returns-5
+    returns-6)
