@@ -14,13 +14,13 @@ use crate::walk::Phase;
 use crate::walk::Walk;
 use wire::Header;
 
-pub fn wide(b: u8) -> u64
+fn wide(b: u8) -> u64
     ensures { λ r. ⌜ (r ≡ b) × (b < 256) ⌝ }
 {
     b as u64
 }
 
-pub fn narrow(w: u64) -> u8
+fn narrow(w: u64) -> u8
     ensures { λ r. ⌜ r ≡ w % 256 ⌝ }
 {
     (w % 256) as u8
@@ -159,7 +159,7 @@ fn stage_in(sort: u64, offset: u64) -> Stage
     }
 }
 
-pub fn header_in(a: u64, b: u64, c: u64, d: u64) -> Header
+fn header_in(a: u64, b: u64, c: u64, d: u64) -> Header
     ensures { λ r. ⌜ r ≡ headerFrom a b c d ⌝ }
 {
     Header {
@@ -187,7 +187,7 @@ fn phase_in(sort: u64, a: u64, b: u64, c: u64, d: u64, left: u64) -> Phase
     }
 }
 
-pub fn place_in(number: u64, byte: u64, at: u64) -> Place
+fn place_in(number: u64, byte: u64, at: u64) -> Place
     ensures { λ r. ⌜ r ≡ placeIn number byte at ⌝ }
 {
     Place {
