@@ -91,12 +91,12 @@ module _ (w tp m₀ : List ℕ) where
   pub unfit : (t : Bool) (f : List ℕ) → t ≡ fitb w → t ≡ false → f ≡ findWords F.Refused (record { repaired = 0; at = startOf (ownOf 0) }) → NextAs (ofWords w) w tp m₀ 1 w f m₀
   unfit t f a b d = stays w O.Refused (refused w t a b .0) tp m₀ f refl d
 
-  module _ (t : Bool) (a : t ≡ fitb w) (b : t ≡ true) where
+  module _ (fit : fitb w ≡ true) where
     pub swiftly : (x : Swift) (v m f : List ℕ) (n : ℕ) (g : Find) (c : About) → SwiftAs x (receiverIn w) w tp m₀ v m → x ≡ S.Gives g c → f ≡ findWords g c → n ≡ orZero (findNumber g)
         → NextAs (ofWords w) w tp m₀ n v f m
     swiftly x v m f n g c s e d k =
         let y : Done (receiverIn w) tp m₀ g c v m = subst (λ (z : Swift). SwiftAs z (receiverIn w) w tp m₀ v m) e s in
-        let z = accepted w t (receiverIn w) a b refl in
+        let z = accepted w true (receiverIn w) (sym fit) refl refl in
         tells w (O.Ready (receiverIn w)) (z .0) tp m₀ (receiverIn w) (y .step) n v f m refl (z .1) (y .gives) (y .state, y .bytes)
         (d ∙ ap (λ (h : Find). findWords h c) (y .find) ∙ ap (λ (h : About). findWords (y .step .find) h) (y .about)) (k ∙ ap (λ (h : Find). orZero (findNumber h)) (y .find))
 
@@ -104,13 +104,13 @@ module _ (w tp m₀ : List ℕ) where
         → (v ≡ wordsOf (q .receiver)) × Bytes (q .receiver) → f ≡ findWords (q .find) (q .about) → n ≡ orZero (findNumber (q .find)) → NextAs (ofWords w) w tp m₀ n v f m
     by-value x u m₁ v m f n r q s e c g h d k =
         let y : (u ≡ w) × (m₁ ≡ m₀) = subst (λ (z : Swift). SwiftAs z (receiverIn w) w tp m₀ u m₁) e s in
-        let z = accepted w t (receiverIn w) a b refl in
+        let z = accepted w true (receiverIn w) (sym fit) refl refl in
         let i : r ≡ receiverIn w = c ∙ ap receiverIn (y .0) in
         tells w (O.Ready (receiverIn w)) (z .0) tp m₀ (receiverIn w) q n v f m refl (z .1) (rw (i, y .1) at g) h d k
 
     pub able-still : (x : Swift) (u m₁ : List ℕ) (r : Receiver) → SwiftAs x (receiverIn w) w tp m₀ u m₁ → x ≡ S.Other → r ≡ receiverIn u → Able r
     able-still x u m₁ r s e c =
         let y : (u ≡ w) × (m₁ ≡ m₀) = subst (λ (z : Swift). SwiftAs z (receiverIn w) w tp m₀ u m₁) e s in
-        let z = accepted w t (receiverIn w) a b refl in
+        let z = accepted w true (receiverIn w) (sym fit) refl refl in
         let i : r ≡ receiverIn w = c ∙ ap receiverIn (y .0) in
         subst Able (sym i) (z .1 .able)

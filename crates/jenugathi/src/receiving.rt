@@ -1,8 +1,9 @@
 // The receiver's calls.
 ghost use mathlib.Core.Path.{_≡_};
+ghost use mathlib.Core.Bool.{true};
 ghost use lib.ListN.{length};
 ghost use Rattle.receiver.specs.Call.{findNumber, openingOf};
-ghost use Rattle.receiver.specs.Words.{ofWords};
+ghost use Rattle.receiver.specs.Words.{fitb, ofWords};
 ghost use Rattle.jenugathi.specs.Receiving.{sevenOf, findWords, orZero, openedTo, gappedTo, NextAs};
 use receiver::About;
 use receiver::Find;
@@ -90,21 +91,11 @@ pub extern "C" fn c7_receiver_gap(w: &mut [u64; 23]) -> u32
     }
 }
 
-// The next find of the TP, and its number: on the words, or by value where something is to be judged. Words of no receiver
-// give 1, and only the find is written.
-#[no_mangle]
-pub extern "C" fn c7_receiver_next(
-    w: &mut [u64; 23],
-    tp: &[u8],
-    room: &mut [u8],
-    find: &mut [u64; 7],
-) -> u32
+// The next find of the TP of words that fit: on the words, or by value where something is to be judged.
+fn call(w: &mut [u64; 23], tp: &[u8], room: &mut [u8], find: &mut [u64; 7]) -> u32
+    requires { ⌜ fitb (now w) ≡ true ⌝ }
     ensures { λ n. ⌜ NextAs (ofWords (now (w .entry))) (now (w .entry)) (now (tp .entry)) (now (room .entry)) n (now (w .exit)) (now (find .exit)) (now (room .exit)) ⌝ }
 {
-    if !receiver::words::is_fit(w) {
-        *find = [1, 1, 0, 0, 0, 0, 0];
-        return 1;
-    }
     match receiver::swift::next(w, tp, room) {
         Swift::Gives { find: f, about: a } => {
             *find = find_words(f, a);
@@ -120,4 +111,21 @@ pub extern "C" fn c7_receiver_next(
             number_of(f)
         }
     }
+}
+
+// The next find of the TP, and its number. Words of no receiver give 1, and only the find is written.
+#[no_mangle]
+pub extern "C" fn c7_receiver_next(
+    w: &mut [u64; 23],
+    tp: &[u8],
+    room: &mut [u8],
+    find: &mut [u64; 7],
+) -> u32
+    ensures { λ n. ⌜ NextAs (ofWords (now (w .entry))) (now (w .entry)) (now (tp .entry)) (now (room .entry)) n (now (w .exit)) (now (find .exit)) (now (room .exit)) ⌝ }
+{
+    if receiver::words::is_fit(w) {
+        return call(w, tp, room, find);
+    }
+    *find = [1, 1, 0, 0, 0, 0, 0];
+    1
 }
