@@ -1,14 +1,12 @@
--- A number's parity, and the number behind a parity, in three lookups: the rows fall into three groups of four, and what four
--- bits choose of a group stands in a table of sixteen. Assumes nothing.
+-- A number's parity in three lookups, and the number behind a parity in two: the rows fall into groups, and what as many bits
+-- choose of a group stands in a table. Assumes nothing.
 use mathlib.Core.Path.{_≡_, refl, sym, ap, ap₂, _∙_}
 use mathlib.Core.List.{List, [], _∷_, _++_}
-use Prim.Native.Nat.{ℕ, _+_, _*_, _/_, _%_, _^_, _<_}
-use native.Mathlib.Nat.{mod-lt, add-comm}
+use Prim.Native.Nat.{ℕ, suc, _+_, _*_, _/_, _%_, _^_, _<_}
+use native.Mathlib.Nat.{mod-lt, mod-eq-of-lt, le-of-suc-le-suc, add-comm}
 use native.Mathlib.Numerals.{one-add}
-use native.Mathlib.Omega.{arith}
-use lib.Dec.{lit<}
 use lib.Bits.{bitXor}
-use lib.Pow.{shr-shr, field, mod-mod-pow}
+use lib.Pow.{pow-pos, shr-shr, field, mod-mod-pow}
 use lib.ListN.{length, length-append}
 use Rattle.golay.specs.Golay.{chosen}
 use Rattle.golay.proofs.Test.{NoneBelow, only}
@@ -34,20 +32,22 @@ same-bits (r ∷ rs) n m h =
     ap₂ (λ (x y : ℕ). bitXor (x * r) y) (sym (field n 1 k) ∙ ap (λ (x : ℕ). x / 2 ^ k) e ∙ field m 1 k)
     (same-bits rs n m (sym (mod-mod-pow n 1 k) ∙ ap (λ (x : ℕ). x % 2 ^ k) e ∙ mod-mod-pow m 1 k))
 
--- a table of sixteen has at the four low bits of n what they choose of four rows: by each entry, and by the last
-pub at : (rs : List ℕ) (n k r : ℕ) → length rs ≡ 4 → n % 16 ≡ k → r ≡ chosen rs k → r ≡ chosen rs n
-at rs n k r four here e =
-    e ∙ ap (chosen rs) (sym here) ∙ same-bits rs (n % 16) n (rw four (mod-mod-pow n 0 4))
+-- a table has at the b low bits of n what they choose of b rows: by each entry, and by the last
+pub at : (b : ℕ) (rs : List ℕ) (n k r : ℕ) → length rs ≡ b → n % 2 ^ b ≡ k → r ≡ chosen rs k → r ≡ chosen rs n
+at b rs n k r long here e =
+    e ∙ ap (chosen rs) (sym here) ∙ same-bits rs (n % 2 ^ b) n (rw long (mod-eq-of-lt (mod-lt n (pow-pos b))))
 
-pub at-last : (rs : List ℕ) (n r : ℕ) → length rs ≡ 4 → NoneBelow 15 (n % 16) → r ≡ chosen rs 15 → r ≡ chosen rs n
-at-last rs n r four none = at rs n 15 r four (only 15 (n % 16) (let h : n % 16 < 16 = mod-lt n (lit< tt) in omega arith) none)
+pub at-last : (b k : ℕ) (rs : List ℕ) (n r : ℕ) → length rs ≡ b → suc k ≡ 2 ^ b → NoneBelow k (n % 2 ^ b) → r ≡ chosen rs k → r ≡ chosen rs n
+at-last b k rs n r long all none = at b rs n k r long (only k (n % 2 ^ b) (le-of-suc-le-suc (rw all (mod-lt n (pow-pos b)))) none)
+
+-- rows fall into two groups
+pub in-two : (b : ℕ) (xs ys : List ℕ) (n c d : ℕ) → length ys ≡ b
+    → c ≡ chosen xs (n / 2 ^ b) → d ≡ chosen ys n → bitXor c d ≡ chosen (xs ++ ys) n
+in-two b xs ys n c d long e f = ap₂ bitXor e f ∙ sym (rw long at (split xs ys n))
 
 -- twelve rows fall into three groups of four, chosen by bits 11 to 8, 7 to 4 and 3 to 0
 pub in-three : (xs ys zs : List ℕ) (n a b c : ℕ) → length ys ≡ 4 → length zs ≡ 4
     → a ≡ chosen xs (n / 256) → b ≡ chosen ys (n / 16) → c ≡ chosen zs n → bitXor (bitXor a b) c ≡ chosen (xs ++ (ys ++ zs)) n
 in-three xs ys zs n a b c four-y four-z d e f =
     let eight : length (ys ++ zs) ≡ 8 = length-append ys zs ∙ ap₂ _+_ four-y four-z in
-    ap₂ bitXor (ap₂ bitXor d e) f
-    ∙ xor-assoc (chosen xs (n / 256)) (chosen ys (n / 16)) (chosen zs n)
-    ∙ ap (bitXor (chosen xs (n / 256))) (sym (rw four-z at (split ys zs n)))
-    ∙ sym (rw eight at (split xs (ys ++ zs) n))
+    xor-assoc a b c ∙ in-two 8 xs (ys ++ zs) n a (bitXor b c) eight d (in-two 4 ys zs n b c four-z e f)

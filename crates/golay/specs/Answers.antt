@@ -4,12 +4,14 @@ use mathlib.Core.Path.{_≡_}
 use mathlib.Core.Logic.{_⊎_}
 use mathlib.Core.Option.{Option, none, some}
 use mathlib.Core.Bool.{cond}
-use Prim.Native.Nat.{ℕ, zero, suc, _-_, _/_, _^_, _≤_, _<_, min}
+use Prim.Native.Nat.{ℕ, zero, suc, _+_, _-_, _*_, _/_, _%_, _^_, _≤_, _<_, min}
 use lib.Count.{onesIn}
-use lib.Dec.{leb}
+use lib.Dec.{leb, eqb}
 use Rattle.golay.specs.Golay.{codeWord, weight, distance, placesTo, syndrome}
 use Rattle.golay.specs.declared.Decoded.{Decoded}
 use Rattle.golay.specs.declared.Decoded.the-variants.{Word, Beyond}
+use Rattle.golay.specs.declared.Mended.{Mended}
+use Rattle.golay.specs.declared.Mended.the-variants as M
 use Rattle.golay.specs.declared.End.{End}
 use Rattle.golay.specs.declared.End.the-variants.{Zeros, Ones, Neither}
 
@@ -39,6 +41,11 @@ Decodes w (Word n c e) =
     × (places (Word n c e) ≡ placesTo w n)
 Decodes w Beyond = Nearest w (count Beyond)
 
+-- the same without the places
+unfoldable pub Mends : ℕ → Mended → Type 0
+Mends w (M.Word n c) = Decodes w (Word n c (placesTo w n))
+Mends w M.Beyond = Decodes w Beyond
+
 -- the same as a function, for the crates above: the number below k whose code word lies within three flips
 unfoldable pub readingBelow : ℕ → ℕ → Decoded
 readingBelow zero w = Beyond
@@ -54,6 +61,16 @@ abbrev pub Corrects : ℕ → ℕ → Type 0
 Corrects s x =
     ((e : ℕ) × (e < 2 ^ 24) × (syndrome e ≡ s) × (weight e ≤ 3) × (x ≡ e / 4096))
     ⊎ ((x ≡ 0xFFFF) × ((e : ℕ) × (e < 2 ^ 24) × (syndrome e ≡ s) × (weight e ≡ 4)))
+
+-- the table's entry y at the syndrome s: above what to flip in the number, that error's count of flips in bits 13 and 12
+abbrev pub Enters : ℕ → ℕ → Type 0
+Enters s y =
+    ((e : ℕ) × (e < 2 ^ 24) × (syndrome e ≡ s) × (weight e ≤ 3) × (y ≡ weight e * 4096 + e / 4096))
+    ⊎ ((y ≡ 0xFFFF) × ((e : ℕ) × (e < 2 ^ 24) × (syndrome e ≡ s) × (weight e ≡ 4)))
+
+-- A.3's entry in it
+abbrev pub correctionOf : ℕ → ℕ
+correctionOf y = cond (eqb y 0xFFFF) 0xFFFF (y % 4096)
 
 -- document 01's byte for each answer; none beyond repair
 abbrev pub endByte : End → Option ℕ

@@ -43,6 +43,10 @@ byteDistance a b = onesIn 8 (bitXor a b)
 abbrev pub four : List ℕ → ℕ → List ℕ
 four rs i = take 4 (drop i rs)
 
+-- and six: what six bits choose of them stands in a table of sixty-four
+abbrev pub six : List ℕ → ℕ → List ℕ
+six rs i = take 6 (drop i rs)
+
 -- ---- the syndrome, by which the table of corrections is indexed (A.3)
 
 -- the parity check rows

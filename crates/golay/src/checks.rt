@@ -1,57 +1,82 @@
-// The number behind a parity, in three lookups as the parity's own: what four bits choose of the parity check rows (A.3).
+// The number behind a parity, in two lookups: what six bits choose of the parity check rows (A.3).
 ghost use mathlib.Core.Path.{_≡_};
-ghost use Rattle.golay.specs.Golay.{chosen, four, checks};
+ghost use Rattle.golay.specs.Golay.{chosen, six, checks};
 
 fn first(n: u16) -> u16
-    ensures { λ r. ⌜ r ≡ chosen (four checks 0) n ⌝ }
+    ensures { λ r. ⌜ r ≡ chosen (six checks 0) n ⌝ }
 {
-    match n % 16 {
+    match n % 64 {
         0 => 0x000,
-        1 => 0x3DA,
-        2 => 0x7B4,
-        3 => 0x46E,
-        4 => 0xF68,
-        5 => 0xCB2,
-        6 => 0x8DC,
-        7 => 0xB06,
-        8 => 0xA4F,
-        9 => 0x995,
-        10 => 0xDFB,
-        11 => 0xE21,
-        12 => 0x527,
-        13 => 0x6FD,
-        14 => 0x293,
-        _ => 0x149,
-    }
-}
-
-fn middle(n: u16) -> u16
-    ensures { λ r. ⌜ r ≡ chosen (four checks 4) n ⌝ }
-{
-    match n % 16 {
-        0 => 0x000,
-        1 => 0xDC6,
-        2 => 0xF13,
-        3 => 0x2D5,
-        4 => 0xAB9,
-        5 => 0x77F,
-        6 => 0x5AA,
-        7 => 0x86C,
-        8 => 0x1ED,
-        9 => 0xC2B,
-        10 => 0xEFE,
-        11 => 0x338,
-        12 => 0xB54,
-        13 => 0x692,
-        14 => 0x447,
-        _ => 0x981,
+        1 => 0xAB9,
+        2 => 0x1ED,
+        3 => 0xB54,
+        4 => 0x3DA,
+        5 => 0x963,
+        6 => 0x237,
+        7 => 0x88E,
+        8 => 0x7B4,
+        9 => 0xD0D,
+        10 => 0x659,
+        11 => 0xCE0,
+        12 => 0x46E,
+        13 => 0xED7,
+        14 => 0x583,
+        15 => 0xF3A,
+        16 => 0xF68,
+        17 => 0x5D1,
+        18 => 0xE85,
+        19 => 0x43C,
+        20 => 0xCB2,
+        21 => 0x60B,
+        22 => 0xD5F,
+        23 => 0x7E6,
+        24 => 0x8DC,
+        25 => 0x265,
+        26 => 0x931,
+        27 => 0x388,
+        28 => 0xB06,
+        29 => 0x1BF,
+        30 => 0xAEB,
+        31 => 0x052,
+        32 => 0xA4F,
+        33 => 0x0F6,
+        34 => 0xBA2,
+        35 => 0x11B,
+        36 => 0x995,
+        37 => 0x32C,
+        38 => 0x878,
+        39 => 0x2C1,
+        40 => 0xDFB,
+        41 => 0x742,
+        42 => 0xC16,
+        43 => 0x6AF,
+        44 => 0xE21,
+        45 => 0x498,
+        46 => 0xFCC,
+        47 => 0x575,
+        48 => 0x527,
+        49 => 0xF9E,
+        50 => 0x4CA,
+        51 => 0xE73,
+        52 => 0x6FD,
+        53 => 0xC44,
+        54 => 0x710,
+        55 => 0xDA9,
+        56 => 0x293,
+        57 => 0x82A,
+        58 => 0x37E,
+        59 => 0x9C7,
+        60 => 0x149,
+        61 => 0xBF0,
+        62 => 0x0A4,
+        _ => 0xA1D,
     }
 }
 
 fn last(n: u16) -> u16
-    ensures { λ r. ⌜ r ≡ chosen (four checks 8) n ⌝ }
+    ensures { λ r. ⌜ r ≡ chosen (six checks 6) n ⌝ }
 {
-    match n % 16 {
+    match n % 64 {
         0 => 0x000,
         1 => 0xC75,
         2 => 0x49F,
@@ -67,7 +92,55 @@ fn last(n: u16) -> u16
         12 => 0xFDD,
         13 => 0x3A8,
         14 => 0xB42,
-        _ => 0x737,
+        15 => 0x737,
+        16 => 0xDC6,
+        17 => 0x1B3,
+        18 => 0x959,
+        19 => 0x52C,
+        20 => 0x4F8,
+        21 => 0x88D,
+        22 => 0x067,
+        23 => 0xC12,
+        24 => 0xB25,
+        25 => 0x750,
+        26 => 0xFBA,
+        27 => 0x3CF,
+        28 => 0x21B,
+        29 => 0xE6E,
+        30 => 0x684,
+        31 => 0xAF1,
+        32 => 0xF13,
+        33 => 0x366,
+        34 => 0xB8C,
+        35 => 0x7F9,
+        36 => 0x62D,
+        37 => 0xA58,
+        38 => 0x2B2,
+        39 => 0xEC7,
+        40 => 0x9F0,
+        41 => 0x585,
+        42 => 0xD6F,
+        43 => 0x11A,
+        44 => 0x0CE,
+        45 => 0xCBB,
+        46 => 0x451,
+        47 => 0x824,
+        48 => 0x2D5,
+        49 => 0xEA0,
+        50 => 0x64A,
+        51 => 0xA3F,
+        52 => 0xBEB,
+        53 => 0x79E,
+        54 => 0xF74,
+        55 => 0x301,
+        56 => 0x436,
+        57 => 0x843,
+        58 => 0x0A9,
+        59 => 0xCDC,
+        60 => 0xD08,
+        61 => 0x17D,
+        62 => 0x997,
+        _ => 0x5E2,
     }
 }
 
@@ -75,5 +148,5 @@ fn last(n: u16) -> u16
 pub fn number(n: u16) -> u16
     ensures { λ r. ⌜ r ≡ chosen checks n ⌝ }
 {
-    first(n / 256) ^ middle(n / 16) ^ last(n)
+    first(n / 64) ^ last(n)
 }

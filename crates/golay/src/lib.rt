@@ -2,7 +2,7 @@
 ghost use mathlib.Core.Path.{_≡_};
 ghost use lib.Dec.{eqb};
 ghost use Rattle.golay.specs.Golay.{codeWord, placesTo, syndrome};
-ghost use Rattle.golay.specs.Answers.{Decodes, endByte, endFlips, endMeant};
+ghost use Rattle.golay.specs.Answers.{Decodes, Mends, endByte, endFlips, endMeant};
 
 mod checks;
 mod corrections;
@@ -13,6 +13,12 @@ mod parities;
 // or beyond repair.
 pub enum Decoded {
     Word { number: u16, flips: u8, places: u32 },
+    Beyond,
+}
+
+// The same without the places.
+pub enum Mended {
+    Word { number: u16, flips: u8 },
     Beyond,
 }
 
@@ -37,7 +43,8 @@ fn places_to(w: u32, n: u16) -> u32
     w % 0x100_0000 ^ encode(n)
 }
 
-fn syndrome_of(w: u32) -> u16
+// By which the table of corrections is indexed; 0 for a code word.
+pub fn syndrome_of(w: u32) -> u16
     ensures { λ r. ⌜ r ≡ syndrome w ⌝ }
 {
     checks::number((w % 4096) as u16) ^ ((w >> 12) % 4096) as u16
@@ -50,29 +57,41 @@ pub fn is_intact(w: u32) -> bool
     checks::number((w % 4096) as u16) == ((w >> 12) % 4096) as u16
 }
 
-// What the 24 low bits of w say. An intact word leaves at once; for any other the table decides.
+// What the 24 low bits of w say, whose syndrome is known: the table decides.
+pub fn mend(w: u32, s: u16) -> Mended
+    requires { ⌜ s ≡ syndrome w ⌝ }
+    ensures { λ r. ⌜ Mends w r ⌝ }
+{
+    let entry = corrections::correction(s);
+    if entry == 0xFFFF {
+        return Mended::Beyond;
+    }
+    let flipped = entry % 4096;
+    Mended::Word {
+        number: ((w >> 12) % 4096) as u16 ^ flipped,
+        flips: (entry / 4096) as u8,
+    }
+}
+
+// What the 24 low bits of w say. An intact word leaves at once.
 pub fn decode(w: u32) -> Decoded
     ensures { λ r. ⌜ Decodes w r ⌝ }
 {
-    let number = ((w >> 12) % 4096) as u16;
     let s = syndrome_of(w);
     if s == 0 {
         return Decoded::Word {
-            number,
+            number: ((w >> 12) % 4096) as u16,
             flips: 0,
             places: 0,
         };
     }
-    let flipped = corrections::correction(s);
-    if flipped == 0xFFFF {
+    let Mended::Word { number, flips } = mend(w, s) else {
         return Decoded::Beyond;
-    }
-    let right = number ^ flipped;
-    let places = places_to(w, right);
+    };
     Decoded::Word {
-        number: right,
-        flips: u32::count_ones(places) as u8,
-        places,
+        number,
+        flips,
+        places: places_to(w, number),
     }
 }
 

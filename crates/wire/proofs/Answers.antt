@@ -1,6 +1,6 @@
 -- What the decoder's answers make of a header's words.
 -- Assumes nothing.
-use mathlib.Core.Path.{_≡_, refl, sym, ap, _∙_}
+use mathlib.Core.Path.{_≡_, refl, sym, ap, subst, _∙_}
 use mathlib.Core.Bool.{Bool, true, false, cond, _&&_}
 use mathlib.Core.Option.{Option, none, some}
 use lib.Dec.{eqb, leb}
@@ -9,8 +9,10 @@ use Prim.Native.Nat.{ℕ, _+_, _*_, _/_, _%_, _^_, _≤_}
 use native.Mathlib.Omega.{arith}
 use Rattle.golay.specs.declared.Decoded.{Decoded}
 use Rattle.golay.specs.declared.Decoded.the-variants.{Word, Beyond}
-use Rattle.golay.specs.Golay.{high, syndrome}
-use Rattle.golay.specs.Answers.{Decodes, reading}
+use Rattle.golay.specs.declared.Mended.{Mended}
+use Rattle.golay.specs.declared.Mended.the-variants as M
+use Rattle.golay.specs.Golay.{high, syndrome, placesTo}
+use Rattle.golay.specs.Answers.{Decodes, Mends, reading}
 use Rattle.golay.proofs.Decoder.{intact}
 use Rattle.golay.proofs.Theorems.{is-reading}
 use Rattle.wire.specs.declared.Header.{Header}
@@ -22,38 +24,52 @@ pub number-is : (w : ℕ) (r : Decoded) → Decodes w r → numberOf (reading w)
 number-is w r d = ap numberOf (sym (is-reading w r d))
 
 -- two words' flips are few
-pub few : (w v a b i j p q : ℕ) → Decodes w (Word a i p) → Decodes v (Word b j q) → i + j ≤ 6
-unfolding Decodes
-few w v a b i j p q d e = omega (arith, d .2, e .2)
+pub few : (w v a b i j : ℕ) → Mends w (M.Word a i) → Mends v (M.Word b j) → i + j ≤ 6
+unfolding Mends Decodes
+few w v a b i j d e = omega (arith, d .2, e .2)
 
-module _ (bytes : ℕ) (x : Decoded) (dx : Decodes (bytes / 2 ^ 24 % 2 ^ 24) x) where
-  pub first-beyond : x ≡ Beyond → R.the-variants.Beyond ≡ readOf (headerIn bytes)
-  unfolding headerIn
-  first-beyond e = rw (sym (is-reading (bytes / 2 ^ 24 % 2 ^ 24) x dx), e)
+-- what a mended word is read as
+module _ (w : ℕ) (x : Mended) (d : Mends w x) where
+  pub says : (n i : ℕ) → x ≡ M.Word n i → reading w ≡ Word n i (placesTo w n)
+  unfolding Mends
+  says n i e = sym (is-reading w (Word n i (placesTo w n)) (subst (Mends w) e d))
 
-  module _ (y : Decoded) (dy : Decodes (bytes % 2 ^ 24) y) (a i p : ℕ) (ex : x ≡ Word a i p) where
-    from-both : headerIn bytes ≡ headerFrom (Word a i p) y
-    unfolding headerIn
-    from-both = rw (sym (is-reading (bytes / 2 ^ 24 % 2 ^ 24) x dx), sym (is-reading (bytes % 2 ^ 24) y dy), ex)
+  pub says-none : x ≡ M.Beyond → reading w ≡ Beyond
+  unfolding Mends
+  says-none e = sym (is-reading w Beyond (subst (Mends w) e d))
 
-    pub second-beyond : y ≡ Beyond → R.the-variants.Beyond ≡ readOf (headerIn bytes)
-    second-beyond e = rw (from-both, e)
-
-    pub both-whole : (b j q : ℕ) → y ≡ Word b j q → (h : Header) → h ≡ fieldsOf a b (i + j) → R.the-variants.Whole h ≡ readOf (headerIn bytes)
-    both-whole b j q e h f = ap R.the-variants.Whole f ∙ sym (ap readOf (rw e at from-both))
-
-module _ (bytes : ℕ) (x : Decoded) (d : Decodes bytes x) where
-  pub word-beyond : x ≡ Beyond → W.the-variants.Beyond ≡ tpWordOf (tpNumberIn bytes)
+  pub word-beyond : x ≡ M.Beyond → W.the-variants.Beyond ≡ tpWordOf (tpNumberIn w)
   unfolding tpNumberIn
-  word-beyond e = rw (number-is bytes x d, e)
+  word-beyond e = rw (says-none e)
 
-  pub word-says : (n i p : ℕ) → x ≡ Word n i p → W.the-variants.Says (leb 2048 n) (n % 2048) ≡ tpWordOf (tpNumberIn bytes)
+  pub word-says : (n i : ℕ) → x ≡ M.Word n i → W.the-variants.Says (leb 2048 n) (n % 2048) ≡ tpWordOf (tpNumberIn w)
   unfolding tpNumberIn
-  word-says n i p e = rw (number-is bytes x d, e)
+  word-says n i e = rw (says n i e)
+
+-- a header's two words
+module _ (w v : ℕ) where
+  pub first-beyond : reading w ≡ Beyond → R.the-variants.Beyond ≡ readOf (headerFrom (reading w) (reading v))
+  first-beyond e = rw e
+
+  module _ (a i p : ℕ) (ex : reading w ≡ Word a i p) where
+    pub second-beyond : reading v ≡ Beyond → R.the-variants.Beyond ≡ readOf (headerFrom (reading w) (reading v))
+    second-beyond e = rw (ex, e)
+
+    pub both-whole : (b j q : ℕ) → reading v ≡ Word b j q → (h : Header) → h ≡ fieldsOf a b (i + j)
+        → R.the-variants.Whole h ≡ readOf (headerFrom (reading w) (reading v))
+    both-whole b j q e h f = rw (ex, e, f)
 
 -- an intact word says its number
-pub word-intact : (w : ℕ) → eqb (syndrome w) 0 ≡ true → tpWordOf (some (high w)) ≡ tpWordOf (tpNumberIn w)
-word-intact w e = word-says w (Word (high w) 0 0) (intact w (eqb-true (syndrome w) 0 e)) (high w) 0 0 refl
+pub intact-word : (w : ℕ) → syndrome w ≡ 0 → reading w ≡ Word (high w) 0 0
+intact-word w e = sym (is-reading w (Word (high w) 0 0) (intact w e))
+
+pub word-intact : (w : ℕ) → syndrome w ≡ 0 → tpWordOf (some (high w)) ≡ tpWordOf (tpNumberIn w)
+unfolding tpNumberIn
+word-intact w e = rw (intact-word w e)
+
+pub words-intact : (w v : ℕ) (h : Header) → syndrome w ≡ 0 → syndrome v ≡ 0 → h ≡ fieldsOf (high w) (high v) 0
+    → R.the-variants.Whole h ≡ readOf (headerFrom (reading w) (reading v))
+words-intact w v = λ h d e. both-whole w v (high w) 0 0 (intact-word w d) (high v) 0 0 (intact-word v e) h
 
 abbrev told : Option Header → ℕ
 told none = 0
@@ -71,7 +87,7 @@ intact-is w h e = by (eqb (syndrome a) 0) (eqb (syndrome b) 0) refl refl e
     b = w % 2 ^ 24
 
     read : (v : ℕ) → eqb (syndrome v) 0 ≡ true → reading v ≡ Word (high v) 0 0
-    read v x = sym (is-reading v (Word (high v) 0 0) (intact v (eqb-true (syndrome v) 0 x)))
+    read v x = intact-word v (eqb-true (syndrome v) 0 x)
 
     by : (x y : Bool) → eqb (syndrome a) 0 ≡ x → eqb (syndrome b) 0 ≡ y → cond (x && y) (some (fieldsOf (high a) (high b) 0)) none ≡ some h
         → headerFrom (reading a) (reading b) ≡ some h

@@ -3,11 +3,13 @@ ghost use mathlib.Core.Path.{_≡_};
 ghost use mathlib.Core.Option.{some};
 ghost use Prim.Native.Nat.{_+_, _≤_};
 ghost use Rattle.wire.specs.Wire.{word, header, offsetNumber, tpHeader};
-ghost use Rattle.wire.specs.Reading.{fieldsOf, headerIn, intactIn, readOf, tpNumberIn, tpWordOf, sortOf};
+ghost use Rattle.golay.specs.Answers.{reading};
+ghost use Rattle.golay.specs.Golay.{high, syndrome};
+ghost use Rattle.wire.specs.Reading.{fieldsOf, headerFrom, headerIn, intactIn, readOf, tpNumberIn, tpWordOf, sortOf};
 
 mod limits;
 
-use golay::Decoded;
+use golay::Mended;
 pub use limits::is_allowed;
 pub use limits::is_link;
 
@@ -84,26 +86,33 @@ fn header_from(a: u16, b: u16, flips: u8) -> Header
     }
 }
 
-fn decoded(bytes: u64) -> Read
-    ensures { λ r. ⌜ r ≡ readOf (headerIn bytes) ⌝ }
+// The header that two intact words hold.
+fn header_in(a: u32, b: u32) -> Header
+    ensures { λ r. ⌜ r ≡ fieldsOf (high a) (high b) 0 ⌝ }
 {
-    let Decoded::Word {
-        number: a,
+    header_from((a / 4096 % 4096) as u16, (b / 4096 % 4096) as u16, 0)
+}
+
+// The header that two words hold, whose syndromes are known.
+fn mended(a: u32, s: u16, b: u32, t: u16) -> Read
+    requires { ⌜ (s ≡ syndrome a) × (t ≡ syndrome b) ⌝ }
+    ensures { λ r. ⌜ r ≡ readOf (headerFrom (reading a) (reading b)) ⌝ }
+{
+    let Mended::Word {
+        number: n,
         flips: i,
-        places: _,
-    } = golay::decode((bytes / 0x100_0000 % 0x100_0000) as u32)
+    } = golay::mend(a, s)
     else {
         return Read::Beyond;
     };
-    let Decoded::Word {
-        number: b,
+    let Mended::Word {
+        number: m,
         flips: j,
-        places: _,
-    } = golay::decode((bytes % 0x100_0000) as u32)
+    } = golay::mend(b, t)
     else {
         return Read::Beyond;
     };
-    Read::Whole(header_from(a, b, i + j))
+    Read::Whole(header_from(n, m, i + j))
 }
 
 // The EP header that six bytes, as a number, hold, if both its words are intact.
@@ -114,8 +123,7 @@ pub fn read_intact(bytes: u64) -> Read
     let b = (bytes % 0x100_0000) as u32;
     if golay::is_intact(a) {
         if golay::is_intact(b) {
-            let h = header_from((a / 4096 % 4096) as u16, (b / 4096 % 4096) as u16, 0);
-            return Read::Whole(h);
+            return Read::Whole(header_in(a, b));
         }
     }
     Read::Beyond
@@ -125,10 +133,16 @@ pub fn read_intact(bytes: u64) -> Read
 pub fn read_header(bytes: u64) -> Read
     ensures { λ r. ⌜ r ≡ readOf (headerIn bytes) ⌝ }
 {
-    if let Read::Whole(h) = read_intact(bytes) {
-        return Read::Whole(h);
+    let a = (bytes / 0x100_0000 % 0x100_0000) as u32;
+    let b = (bytes % 0x100_0000) as u32;
+    let s = golay::syndrome_of(a);
+    let t = golay::syndrome_of(b);
+    if s == 0 {
+        if t == 0 {
+            return Read::Whole(header_in(a, b));
+        }
     }
-    decoded(bytes)
+    mended(a, s, b, t)
 }
 
 fn says(number: u16) -> TpWord
@@ -144,16 +158,13 @@ fn says(number: u16) -> TpWord
 pub fn read_tp_word(bytes: u32) -> TpWord
     ensures { λ r. ⌜ r ≡ tpWordOf (tpNumberIn bytes) ⌝ }
 {
-    if golay::is_intact(bytes) {
+    let s = golay::syndrome_of(bytes);
+    if s == 0 {
         return says((bytes / 4096 % 4096) as u16);
     }
-    match golay::decode(bytes) {
-        Decoded::Word {
-            number,
-            flips: _,
-            places: _,
-        } => says(number),
-        Decoded::Beyond => TpWord::Beyond,
+    match golay::mend(bytes, s) {
+        Mended::Word { number, flips: _ } => says(number),
+        Mended::Beyond => TpWord::Beyond,
     }
 }
 

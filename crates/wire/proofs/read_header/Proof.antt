@@ -1,31 +1,49 @@
--- `wire::read_header` meets its contract: two intact words say their numbers, and others are decoded.
+-- `wire::read_header` meets its contract: two intact words say their numbers, and others are mended.
 -- Assumes nothing.
-use mathlib.Core.Path.{ap, sym}
-use Rattle.wire.specs.Reading.{readOf}
-use Rattle.wire.proofs.Answers.{read-intact-is}
+use mathlib.Core.Path.{sym, _∙_}
+use Rattle.wire.specs.Reading.{headerIn}
+use Rattle.wire.proofs.Answers.{words-intact}
 use borrow.Author.Needs.{needs}
 use Rattle.wire.proofs.read_header.Statement.{statement}
 use Rattle.wire.proofs.read_header.Tie as tie
 
-read-intact-requires : tie.Need-read-intact-requires
-read-intact-requires c κs = search needs
+cast-a : tie.Need-cast-a
+cast-a c = search needs
 
-enum-known-h : tie.Need-enum-known-h
-enum-known-h c = search needs
+cast-b : tie.Need-cast-b
+cast-b c = search needs
+
+syndrome-of-requires : tie.Need-syndrome-of-requires
+syndrome-of-requires c κs = search needs
+
+syndrome-of-requires-2 : tie.Need-syndrome-of-requires-2
+syndrome-of-requires-2 c κs = search needs
+
+header-in-requires : tie.Need-header-in-requires
+header-in-requires c κs = search needs
 
 returns : tie.Need-returns
-returns c = sym (ap readOf (read-intact-is (c .before .before .before .before .args .bytes) _ _ (c .before .before .before .read-intact .ensures) (c .before .h .given .1)))
+unfolding headerIn
+returns c =
+    let t = c .before .before .before in
+    words-intact _ _ (c .header-in .result) (sym (t .before .syndrome-of .ensures) ∙ c .before .before .if1 .taken) (sym (t .syndrome-of2 .ensures) ∙ c .before .if2 .taken) (c .header-in .ensures)
 
-enum-told : tie.Need-enum-told
-enum-told c = search needs
-
-decoded-requires : tie.Need-decoded-requires
-decoded-requires c κs = search needs
+mended-requires : tie.Need-mended-requires
+mended-requires c κs = search needs
 
 returns-2 : tie.Need-returns-2
-returns-2 c = search needs
+unfolding headerIn
+returns-2 c = c .mended .ensures
 
 pub read-header-spec : {M : Type 1} → statement M
 read-header-spec =
     tie.close
-    (tie.spec read-intact-requires enum-known-h returns enum-told decoded-requires returns-2)
+    (tie.spec
+    cast-a
+    cast-b
+    syndrome-of-requires
+    syndrome-of-requires-2
+    header-in-requires
+    returns
+    mended-requires
+    returns-2)

@@ -18,17 +18,11 @@ is-intact-requires c κs = search needs
 is-intact-requires-2 : tie.Need-is-intact-requires-2
 is-intact-requires-2 c κs = search needs
 
-cast-header-from : tie.Need-cast-header-from
-cast-header-from c = search needs
-
-cast-header-from-2 : tie.Need-cast-header-from-2
-cast-header-from-2 c = search needs
-
-header-from-requires : tie.Need-header-from-requires
-header-from-requires c κs = search needs
+header-in-requires : tie.Need-header-in-requires
+header-in-requires c κs = search needs
 
 returns : tie.Need-returns
-returns c = let a = c .before .before .before .before .before .args in both-intact (a .bytes) (c .header-from .result) (sym (c .before .before .before .before .is-intact .ensures) ∙ c .before .before .before .if1 .taken) (sym (c .before .before .is-intact2 .ensures) ∙ c .before .if2 .taken) (c .header-from .ensures)
+returns c = let a = c .before .before .before .before .before .args in both-intact (a .bytes) (c .header-in .result) (sym (c .before .before .before .before .is-intact .ensures) ∙ c .before .before .before .if1 .taken) (sym (c .before .before .is-intact2 .ensures) ∙ c .before .if2 .taken) (c .header-in .ensures)
 
 returns-2 : tie.Need-returns-2
 returns-2 c = second-flipped (c .before .before .before .before .args .bytes) (sym (c .before .before .before .is-intact .ensures) ∙ c .before .before .if1 .taken) (sym (c .before .is-intact2 .ensures) ∙ c .if2 .left)
@@ -44,9 +38,7 @@ read-intact-spec =
     cast-b
     is-intact-requires
     is-intact-requires-2
-    cast-header-from
-    cast-header-from-2
-    header-from-requires
+    header-in-requires
     returns
     returns-2
     returns-3)

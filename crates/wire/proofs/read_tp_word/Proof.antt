@@ -6,8 +6,8 @@ use borrow.Author.Needs.{needs}
 use Rattle.wire.proofs.read_tp_word.Statement.{statement}
 use Rattle.wire.proofs.read_tp_word.Tie as tie
 
-is-intact-requires : tie.Need-is-intact-requires
-is-intact-requires c κs = search needs
+syndrome-of-requires : tie.Need-syndrome-of-requires
+syndrome-of-requires c κs = search needs
 
 cast-says : tie.Need-cast-says
 cast-says c = search needs
@@ -16,10 +16,10 @@ says-requires : tie.Need-says-requires
 says-requires c κs = search needs
 
 returns : tie.Need-returns
-returns c = c .says .ensures ∙ word-intact (c .before .before .before .args .bytes) (sym (c .before .before .is-intact .ensures) ∙ c .before .if1 .taken)
+returns c = c .says .ensures ∙ word-intact (c .before .before .before .args .bytes) (sym (c .before .before .syndrome-of .ensures) ∙ c .before .if1 .taken)
 
-decode-requires : tie.Need-decode-requires
-decode-requires c κs = search needs
+mend-requires : tie.Need-mend-requires
+mend-requires c κs = search needs
 
 enum-known-number : tie.Need-enum-known-number
 enum-known-number c = search needs
@@ -33,23 +33,20 @@ enum-told c = search needs
 returns-2 : tie.Need-returns-2
 returns-2 c =
     let n = c .before .before .number .given in
-    let d = c .before .before .before .before .decode in
-    c .says2 .ensures ∙ word-says (c .before .before .before .before .before .before .before .args .bytes) (d .result) (d .ensures) (n .0 .0) (n .0 .1 .0) (n .0 .1 .1 .0) (n .1)
+    c .says2 .ensures ∙ word-says _ _ (c .before .before .before .before .mend .ensures) (n .0 .0) (n .0 .1 .0) (n .1)
 
 returns-3 : tie.Need-returns-3
-returns-3 c =
-    let d = c .before .before .decode in
-    word-beyond (c .before .before .before .before .before .args .bytes) (d .result) (d .ensures) (c .enum-told .given .1)
+returns-3 c = word-beyond _ _ (c .before .before .mend .ensures) (c .enum-told .given .1)
 
 pub read-tp-word-spec : {M : Type 1} → statement M
 read-tp-word-spec =
     tie.close
     (tie.spec
-    is-intact-requires
+    syndrome-of-requires
     cast-says
     says-requires
     returns
-    decode-requires
+    mend-requires
     enum-known-number
     says-requires-2
     enum-told
