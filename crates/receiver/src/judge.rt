@@ -2,6 +2,7 @@
 ghost use mathlib.Core.Path.{_≡_};
 ghost use Prim.Native.Nat.{_≤_};
 ghost use Rattle.wire.specs.Reading.{headerIn};
+ghost use Rattle.receiver.specs.declared.walk.Kept.the-variants.{Empty};
 ghost use Rattle.receiver.specs.Kind.{kindOf};
 ghost use Rattle.receiver.specs.Low.{tagOf, totalOf};
 ghost use Rattle.receiver.specs.State.{Roomy};
@@ -48,6 +49,15 @@ fn more(at: usize, phase: Phase, began: Place, kept: Kept) -> Turn
         began,
         kept,
     })
+}
+
+// Nothing kept, assigned over what was: behind a new `Kept::Empty` stand bytes of earlier turns, which the compiler then carries along.
+fn emptied(kept: Kept) -> Kept
+    ensures { λ r. ⌜ r ≡ Empty ⌝ }
+{
+    let mut none = kept;
+    none = Kept::Empty;
+    none
 }
 
 fn empty(kept: Kept) -> bool
@@ -110,16 +120,16 @@ fn fits(at: usize, header: Header, began: Place, tag: Tag, len: usize, cap: usiz
     let size = header.size;
     let body = Phase::Body { header, left: size };
     let first = tag.began;
+    let kept = Kept::Of {
+        content: tag.content,
+        repaired: tag.repaired,
+        began: first,
+        len,
+    };
     if size <= cap - len {
-        let kept = Kept::Of {
-            content: tag.content,
-            repaired: tag.repaired,
-            began: first,
-            len,
-        };
         return more(at, body, began, kept);
     }
-    stop(at, body, began, Kept::Empty, Gain::Notice(15))
+    stop(at, body, began, emptied(kept), Gain::Notice(15))
 }
 
 fn further(at: usize, header: Header, began: Place, kept: Kept, cap: usize) -> Turn
@@ -159,8 +169,8 @@ pub fn admit(at: usize, header: Header, began: Place, kept: Kept, cap: usize) ->
     };
     let inside = Phase::Body { header, left: size };
     match kind::kind_of(header) {
-        Kind::Fill => more(at, inside, began, Kept::Empty),
-        Kind::Reserved => stop(at, inside, began, Kept::Empty, Gain::Notice(16)),
+        Kind::Fill => more(at, inside, began, emptied(kept)),
+        Kind::Reserved => stop(at, inside, began, emptied(kept), Gain::Notice(16)),
         Kind::Complete => fits(at, header, began, tag, 0, cap),
         Kind::First => fits(at, header, began, tag, 0, cap),
         Kind::Middle => further(at, header, began, kept, cap),
@@ -177,7 +187,7 @@ fn opened(at: usize, header: Header, began: Place, kept: Kept, cap: usize) -> Tu
         return admit(at, header, began, kept, cap);
     }
     let judged = Phase::Judged(header);
-    stop(at, judged, began, Kept::Empty, Gain::Notice(14))
+    stop(at, judged, began, emptied(kept), Gain::Notice(14))
 }
 
 // Six bytes are there.
@@ -186,7 +196,7 @@ pub fn whole(at: usize, word: u64, began: Place, kept: Kept, cap: usize) -> Turn
     ensures { λ r. ⌜ r ≡ wholeOf at (headerIn word) began kept cap ⌝ }
 {
     match wire::read_header(word) {
-        Read::Beyond => stop(at, Phase::Lost, began, Kept::Empty, Gain::Notice(12)),
+        Read::Beyond => stop(at, Phase::Lost, began, emptied(kept), Gain::Notice(12)),
         Read::Whole(header) => opened(at, header, began, kept, cap),
     }
 }
@@ -209,7 +219,7 @@ fn handed(at: usize, began: Place, kept: Kept) -> Turn
                 began: first,
                 len,
             };
-            stop(at, next, began, Kept::Empty, packet)
+            stop(at, next, began, emptied(kept), packet)
         }
     }
 }

@@ -14,11 +14,17 @@ kind-of-requires c κs = search needs
 enum-told : tie.Need-enum-told
 enum-told c = search needs
 
+emptied-requires : tie.Need-emptied-requires
+emptied-requires c κs = search needs
+
 more-requires : tie.Need-more-requires
 more-requires c κs = search needs
 
 enum-told-2 : tie.Need-enum-told-2
 enum-told-2 c = search needs
+
+emptied-requires-2 : tie.Need-emptied-requires-2
+emptied-requires-2 c κs = search needs
 
 stop-requires : tie.Need-stop-requires
 stop-requires c κs = search needs
@@ -48,10 +54,10 @@ further-requires-2 : tie.Need-further-requires-2
 further-requires-2 c κs = search needs
 
 returns : tie.Need-returns
-returns c = simp (sym (c .before .before .before .kind-of .ensures) ∙ c .before .enum-told .given .1, c .more .ensures)
+returns c = simp (sym (c .before .before .before .before .kind-of .ensures) ∙ c .before .before .enum-told .given .1, c .more .ensures, c .before .emptied .ensures)
 
 returns-2 : tie.Need-returns-2
-returns-2 c = simp (sym (c .before .before .before .kind-of .ensures) ∙ c .before .enum-told2 .given .1, c .stop .ensures)
+returns-2 c = simp (sym (c .before .before .before .before .kind-of .ensures) ∙ c .before .before .enum-told2 .given .1, c .stop .ensures, c .before .emptied2 .ensures)
 
 returns-3 : tie.Need-returns-3
 returns-3 c = simp (sym (c .before .before .before .kind-of .ensures) ∙ c .before .enum-told3 .given .1, c .fits2 .ensures)
@@ -72,8 +78,10 @@ admit-spec =
     cast-flips
     kind-of-requires
     enum-told
+    emptied-requires
     more-requires
     enum-told-2
+    emptied-requires-2
     stop-requires
     enum-told-3
     fits-requires

@@ -13,6 +13,9 @@ more-requires c κs = search needs
 enum-known-kept : tie.Need-enum-known-kept
 enum-known-kept c = search needs
 
+emptied-requires : tie.Need-emptied-requires
+emptied-requires c κs = search needs
+
 stop-requires : tie.Need-stop-requires
 stop-requires c κs = search needs
 
@@ -20,8 +23,8 @@ returns : tie.Need-returns
 returns c = simp (c .before .enum-told .given .1, c .more .ensures)
 
 returns-2 : tie.Need-returns-2
-returns-2 c = simp (c .before .before .kept .given .1, c .stop .ensures)
+returns-2 c = simp (c .before .before .before .kept .given .1, c .stop .ensures, c .before .emptied .ensures)
 
 pub handed-spec : {M : Type 1} → statement M
 handed-spec =
-    tie.close (tie.spec enum-told more-requires enum-known-kept stop-requires returns returns-2)
+    tie.close (tie.spec enum-told more-requires enum-known-kept emptied-requires stop-requires returns returns-2)

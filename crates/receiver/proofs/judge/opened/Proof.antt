@@ -21,14 +21,17 @@ returns c =
     let e = rw (c .before .before .before .kind-of .ensures) at (sym (c .before .before .meets .ensures) ∙ c .before .if1 .taken) in
     simp (e, c .admit .ensures)
 
+emptied-requires : tie.Need-emptied-requires
+emptied-requires c κs = search needs
+
 stop-requires : tie.Need-stop-requires
 stop-requires c κs = search needs
 
 returns-2 : tie.Need-returns-2
 unfolding openedOf
 returns-2 c =
-    let e = rw (c .before .before .before .kind-of .ensures) at (sym (c .before .before .meets .ensures) ∙ c .before .if1 .left) in
-    simp (e, c .stop .ensures)
+    let e = rw (c .before .before .before .before .kind-of .ensures) at (sym (c .before .before .before .meets .ensures) ∙ c .before .before .if1 .left) in
+    simp (e, c .stop .ensures, c .before .emptied .ensures)
 
 pub opened-spec : {M : Type 1} → statement M
 opened-spec =
@@ -38,5 +41,6 @@ opened-spec =
     meets-requires
     admit-requires
     returns
+    emptied-requires
     stop-requires
     returns-2)

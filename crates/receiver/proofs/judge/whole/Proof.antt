@@ -13,6 +13,9 @@ read-header-requires c κs = search needs
 enum-told : tie.Need-enum-told
 enum-told c = search needs
 
+emptied-requires : tie.Need-emptied-requires
+emptied-requires c κs = search needs
+
 stop-requires : tie.Need-stop-requires
 stop-requires c κs = search needs
 
@@ -24,8 +27,8 @@ opened-requires c κs = search needs
 
 returns : tie.Need-returns
 returns c =
-    let a = c .before .before .before .before .args in
-    c .stop .ensures ∙ beyond-read (a .at) (a .began) (a .kept) (a .cap) (headerIn (a .word)) (sym (c .before .before .before .read-header .ensures) ∙ c .before .enum-told .given .1)
+    let a = c .before .before .before .before .before .args in
+    rw (c .before .emptied .ensures) at (c .stop .ensures) ∙ beyond-read (a .at) (a .began) (a .kept) (a .cap) (headerIn (a .word)) (sym (c .before .before .before .before .read-header .ensures) ∙ c .before .before .enum-told .given .1)
 
 returns-2 : tie.Need-returns-2
 returns-2 c =
@@ -38,6 +41,7 @@ whole-spec =
     (tie.spec
     read-header-requires
     enum-told
+    emptied-requires
     stop-requires
     enum-known-header
     opened-requires
