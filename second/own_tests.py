@@ -91,6 +91,10 @@ def example_read(run, records):
     same("example 6, read", run("read", example_recording(records)), wanted)
 
 
+def stored(run, command, data, answer):
+    same("the stored answer of " + command, run(command, data), answer)
+
+
 def examples_of_calls(run):
     """5 and 8: how many EPs an offer makes shows in the queue that is just long enough."""
     entries, wanted = [inputs.call(inputs.LIMIT, 64)], ["limit"]

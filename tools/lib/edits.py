@@ -56,13 +56,16 @@ def read(crate, file):
 
 
 def functions(crate, file):
-    """For each line of a source file in rt's layout: its function's path in the crate, if any, and whether it is in the body."""
+    """For each line of a source file in rt's layout: its function's path in the crate, if any, and whether it is in the body.
+    Attributes stand with the function below them: what is refused there is told at the first."""
     module = re.sub(r'^src/((lib|main)\.rt$|)|\.rt$', '', file).replace('/', '::')
-    name, in_body, found = None, False, []
+    name, in_body, attributes, found = None, False, 0, []
     for line in read(crate, file).split('\n'):
         begins = re.match(r'(?:pub )?(?:extern "C" )?fn (\w+)', line)
         if begins:
             name, in_body = '::'.join(filter(None, (module, begins[1]))), False
+            found[len(found) - attributes:] = [(name, False)] * attributes
+        attributes = attributes + 1 if line.startswith('#[') else 0
         found.append((name, in_body))
         if line == '}':
             name, in_body = None, False

@@ -1,5 +1,5 @@
-// The reading program: house records of TPs and gaps in, the setup record and a record for each packet handed out. Its input here is
-// that of corpus_list, its output that of the second program.
+// The reading program: house records of TPs and gaps in, the setup record and a record for each packet handed out. Its output here
+// is that of the second program.
 ghost use Prim.Native.Nat.{_+_, _≤_, _<_};
 ghost use lib.ListN.{length};
 ghost use Rattle.receiver.specs.State.{Able};

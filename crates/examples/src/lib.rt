@@ -1,3 +1,1 @@
 // Document 01's starred examples are facts about the definitions: see proofs/Examples.antt.
-
-mod contracts;

@@ -39,18 +39,29 @@ fn offer_low(sp: &[u8]) {
     print_offer(b"low ", sp, a, &low);
 }
 
+// The packet's first n bytes, each lent by a call of its own: parts that one function lends in turn are dear to check.
+fn ordinary_of(packet: &[u8], n: usize) {
+    let end = queue::least(n, packet.len());
+    offer_ordinary(&packet[0..end]);
+}
+
+fn low_of(packet: &[u8], n: usize) {
+    let end = queue::least(n, packet.len());
+    offer_low(&packet[0..end]);
+}
+
 fn main() {
     let packet = [170u8; 131073];
     // 5: "65,535 bytes give one EP"
-    offer_ordinary(&packet[0..65535]);
+    ordinary_of(&packet, 65535);
     // 5: "65,536 give two", which are pieces of F, the last holding the rest
-    offer_ordinary(&packet[0..65536]);
+    ordinary_of(&packet, 65536);
     // 5: "131,072 give three (the last of 2)"
-    offer_ordinary(&packet[0..131072]);
+    ordinary_of(&packet, 131072);
     // 5: "131,073 give 3"
-    offer_ordinary(&packet[0..131073]);
+    ordinary_of(&packet, 131073);
     // 8: "low-latency of 5 bytes is accepted", as one complete EP
-    offer_low(&packet[0..5]);
+    low_of(&packet, 5);
     // 8: "of 6 gives 3"
-    offer_low(&packet[0..6]);
+    low_of(&packet, 6);
 }

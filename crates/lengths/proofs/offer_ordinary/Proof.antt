@@ -2,6 +2,7 @@
 use mathlib.Core.Path.{subst}
 use Rattle.sender.specs.Opening.{SoundAnswer}
 use borrow.Author.Needs.{needs}
+use Rattle.lengths.proofs.Counted.{counted}
 use Rattle.lengths.proofs.offer_ordinary.Statement.{statement}
 use Rattle.lengths.proofs.offer_ordinary.Tie as tie
 
@@ -9,7 +10,7 @@ slice-aggregate-open : tie.Need-slice-aggregate-open
 slice-aggregate-open c = search needs
 
 slice-aggregate-open-2 : tie.Need-slice-aggregate-open-2
-slice-aggregate-open-2 c = search needs
+slice-aggregate-open-2 c = counted 131090 0
 
 open-requires : tie.Need-open-requires
 open-requires c κs = search needs
@@ -27,7 +28,7 @@ slice-aggregate-offer-ordinary : tie.Need-slice-aggregate-offer-ordinary
 slice-aggregate-offer-ordinary c = search needs
 
 slice-aggregate-offer-ordinary-2 : tie.Need-slice-aggregate-offer-ordinary-2
-slice-aggregate-offer-ordinary-2 c = search needs
+slice-aggregate-offer-ordinary-2 c = counted 131090 0
 
 offer-ordinary-requires : tie.Need-offer-ordinary-requires
 offer-ordinary-requires c κs = subst SoundAnswer (c .before .before .before .s .given .1) (c .before .before .before .before .before .«open» .ensures .1)
