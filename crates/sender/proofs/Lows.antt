@@ -33,6 +33,35 @@ more l t g n e p h = omega arith
 turned : (h l t g n cap : ℕ) → t ≡ l - g → g ≤ l → n ≤ t → h ≤ cap → l ≤ cap → h + g + n ≤ cap + cap
 turned h l t g n cap e p q r s = omega arith
 
+-- what a turn asks of numbers, each over bare ones: `omega` looks at all that is in reach
+
+within-on : (a m : ℕ) → a < m → a + 1 ≤ m
+within-on a m h = omega arith
+
+place-on : (a n o l : ℕ) → a ≡ 4 + o → l ≡ o + n + 1 → a + n + 1 ≡ 4 + l
+place-on a n o l e f = omega arith
+
+enough-on : (P a n f : ℕ) → P + 4 - a ≤ f → a + n < P + 4 → P + 4 - (a + n + 1) ≤ f - 1
+enough-on P a n f h p = omega arith
+
+fuel-on : (P a n f : ℕ) → P + 4 - a ≤ f → a + n < P + 4 → f ≡ suc (f - 1)
+fuel-on P a n f h p = omega arith
+
+rest-on : (P a n : ℕ) → P + 4 - (a + n + 1) ≡ P + 3 - (a + n)
+rest-on P a n = omega arith
+
+rest-off : (P a n : ℕ) → P + 4 - a - (n + 1) ≡ P + 3 - (a + n)
+rest-off P a n = omega arith
+
+below : (a l m : ℕ) → l ≡ m → a < m → a < l
+below a l m e h = omega arith
+
+most : (n l m : ℕ) → l ≡ m → n ≤ m → n ≤ l
+most n l m e h = omega arith
+
+reach : (a l m P : ℕ) → l ≡ m → m ≡ P + 4 → a ≤ P + 4 → a ≤ l
+reach a l m P e f h = omega arith
+
 -- ---- the loop
 
 -- what holds at the loop's head: out is written, gone bytes are off the queue
@@ -125,39 +154,39 @@ module _ (P : ℕ) (b : List ℕ) (q : Ring) (d₀ d : List ℕ) (t : Ring) (at 
           let F₁ = fits .1 in
           let z = i .size in
           let l = length-held b t (i .sound) in
-          let x : n ≤ length (held b t) = omega arith in
-          let y : at ≤ length d = omega arith in
+          let x : n ≤ length (held b t) = most n (length (held b t)) (t .len) l F₀ in
+          let y : at ≤ length d = reach at (length d) (length d₀) P z s (i .within) in
           let l₁ = stays in
           let lt : length (take n (held b t)) ≡ n = length-take-le n (held b t) x in
           let rest : held b t₁ ≡ drop n (held b t) = ap (held b) ring-is ∙ held-off b t n (i .sound) F₀ in
           let k = i .fuel - 1 in
           let en₀ = i .enough in
-          let fk : i .fuel ≡ suc k = omega arith in
-          let g₁ : P + 4 - (at + n + 1) ≡ P + 3 - (at + n) = omega arith in
-          let g₂ : P + 4 - at - (n + 1) ≡ P + 3 - (at + n) = omega arith in
+          let fk : i .fuel ≡ suc k = fuel-on P at n (i .fuel) en₀ F₁ in
+          let g₁ : P + 4 - (at + n + 1) ≡ P + 3 - (at + n) = rest-on P at n in
+          let g₂ : P + 4 - at - (n + 1) ≡ P + 3 - (at + n) = rest-off P at n in
           let es = leave (suc k) P (held b t₁) (P + 3 - (at + n)) in
           let one : leave (suc (i .fuel)) P (held b t) (P + 4 - at) ≡ take n (held b t) ∷ es =
           one-leaves (i .fuel) P (held b t) (P + 4 - at) n (sym (i .next-is)) p ∙ ap (λ (z : ℕ). take n (held b t) ∷ leave z P (drop n (held b t)) (P + 4 - at - (n + 1))) fk ∙ rw (g₂, rest) refl in
           let eb : cond (present es) 255 0 ≡ e = end-tells k P (held b t₁) (P + 3 - (at + n)) ∙ rw (← mn, ← en) refl in
           let o : List ℕ = i .out ++ take n (held b t) ++ (e ∷ []) in
           let tk : take (at + n + 1) (set d₁ (at + n) e) ≡ take 4 d₀ ++ o =
-          rw (add-one, take-suc-set d₁ (at + n) e (omega arith), bytes-is, take-paste d at (held b t) n y x, i .written) (simp append-assoc) in
+          rw (add-one, take-suc-set d₁ (at + n) e (below (at + n) (length d₁) (P + 4) l₁ F₁), bytes-is, take-paste d at (held b t) n y x, i .written) (simp append-assoc) in
           let lo : length o ≡ length (i .out) + n + 1 = length-append (i .out ++ take n (held b t)) (e ∷ []) ∙ rw (length-append (i .out) (take n (held b t)), lt) refl in
           let pl = i .place in
           record {
             sound = kept-on;
             size = length-set d₁ (at + n) e ∙ l₁ ∙ sym s;
-            within = omega arith;
+            within = within-on (at + n) (P + 4) F₁;
             next-is = rw g₁ mn;
             out = o;
             written = tk;
-            place = omega arith;
+            place = place-on at n (length (i .out)) (length o) pl lo;
             gone = i .gone + n;
             ring = ring-is ∙ ap (λ (z : Ring). off (length b) z n) (i .ring) ∙ off-off (length b) q (i .gone) n (turned (q .head) (q .len) (t .len) (i .gone) n (length b) (i .left) (i .few) F₀ (w .head) (w .len));
             few = more (q .len) (t .len) (i .gone) n (i .left) (i .few) F₀;
             left = len-on ∙ ap (λ (z : ℕ). z - n) (i .left) ∙ sym (sub-add-eq (q .len) (i .gone) n);
             fuel = k;
-            enough = omega arith;
+            enough = enough-on P at n (i .fuel) en₀ F₁;
             part-is = rw g₁ (parts (i .out) (take n (held b t)) e (cond (present es) 255 0) (part es) eb ∙ ap (λ (z : List (List ℕ)). i .out ++ part z) (sym one) ∙ i .part-is);
             gone-is = rw g₁ (add-assoc (i .gone) n (length (flatten es)) ∙ ap (λ (z : ℕ). i .gone + z) (sym (length-append (take n (held b t)) (flatten es) ∙ ap (λ (z : ℕ). z + length (flatten es)) lt)) ∙ ap (λ (z : List (List ℕ)). i .gone + length (flatten z)) (sym one) ∙ i .gone-is);
           }
