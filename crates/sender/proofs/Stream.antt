@@ -111,6 +111,26 @@ fill-nothing d at m e z =
     let t : take at d ≡ d = take-all at d (omega arith) in
     rw (z, t) (sym (append-nil d))
 
+-- what it asks of numbers, each over bare ones: `omega` looks at all that is in reach
+
+head-cut : (k l m : ℕ) → l ≡ 6 → k ≡ min 6 m → min (k - 0) l ≡ k
+head-cut k l m e f = omega arith
+
+head-room : (D at m k x : ℕ) → at ≤ D → m ≡ D - at → k ≡ min 6 m → x ≡ k → at + x ≤ D
+head-room D at m k x p e f g = omega arith
+
+fill-room : (D L at m k y : ℕ) → at ≤ D → m ≡ D - at → k ≡ min 6 m → y ≡ m - k → L ≡ D → at + k + y ≤ L
+fill-room D L at m k y p e f g h = omega arith
+
+start-room : (D L at m k : ℕ) → at ≤ D → m ≡ D - at → k ≡ min 6 m → L ≡ D → at + k ≤ L
+start-room D L at m k p e f h = omega arith
+
+all-filled : (D L at m k : ℕ) → at ≤ D → m ≡ D - at → k ≡ min 6 m → L ≡ D → L ≤ at + k + (m - k)
+all-filled D L at m k p e f h = omega arith
+
+as-long : (a b : ℕ) → a ≡ b → b ≤ a
+as-long a b e = omega arith
+
 pub fill-written : (d d₁ d₂ h : List ℕ) (at k m : ℕ) → at ≤ length d → m ≡ length d - at → k ≡ min 6 m → h ≡ header 0 0 (m - k)
     → d₁ ≡ copied d at (take (k - 0) h) → d₂ ≡ copied d₁ (at + k) (replicate (m - k) 0xAA)
     → d₂ ≡ take at d ++ take m (fill m)
@@ -118,16 +138,18 @@ fill-written d d₁ d₂ h at k m p e ke he c₁ c₂ =
     let x : List ℕ = take (k - 0) h in
     let y : List ℕ = replicate (m - k) 0xAA in
     let hl : length h ≡ 6 = rw he (header-length 0 0 (m - k)) in
-    let lx : length x ≡ k = length-take (k - 0) h ∙ omega arith in
+    let lx : length x ≡ k = length-take (k - 0) h ∙ head-cut k (length h) m hl ke in
+    let fits = head-room (length d) at m k (length x) p e ke lx in
     let ly = rep-length (m - k) 0xAA in
-    let e₁ : d₁ ≡ paste d at x (length x) = c₁ ∙ copied-all d x at (omega arith) in
-    let l₁ : length d₁ ≡ length d = rw e₁ (length-paste d at x (length x) (omega arith) (omega arith)) in
-    let e₂ : d₂ ≡ paste d₁ (at + k) y (m - k) = c₂ ∙ copied-all d₁ y (at + k) (omega arith) ∙ ap (paste d₁ (at + k) y) ly in
-    let l₂ : length d₂ ≡ length d = rw e₂ (length-paste d₁ (at + k) y (m - k) (omega arith) (omega arith) ∙ l₁) in
+    let enough = as-long (length y) (m - k) ly in
+    let e₁ : d₁ ≡ paste d at x (length x) = c₁ ∙ copied-all d x at fits in
+    let l₁ : length d₁ ≡ length d = rw e₁ (length-paste d at x (length x) fits (as-long (length x) (length x) refl)) in
+    let e₂ : d₂ ≡ paste d₁ (at + k) y (m - k) = c₂ ∙ copied-all d₁ y (at + k) (fill-room (length d) (length d₁) at m k (length y) p e ke ly l₁) ∙ ap (paste d₁ (at + k) y) ly in
+    let l₂ : length d₂ ≡ length d = rw e₂ (length-paste d₁ (at + k) y (m - k) (fill-room (length d) (length d₁) at m k (m - k) p e ke refl l₁) enough ∙ l₁) in
     let t₁ : take (at + k) d₁ ≡ take at d ++ x = rw lx at (pasted d x d₁ at p e₁) in
-    let t₂ : take (at + k + (m - k)) d₂ ≡ take (at + k) d₁ ++ take (m - k) y = rw e₂ (take-paste d₁ (at + k) y (m - k) (omega arith) (omega arith)) in
-    let w : take (at + k + (m - k)) d₂ ≡ d₂ = take-all (at + k + (m - k)) d₂ (omega arith) in
-    let v : take (m - k) y ≡ y = take-all (m - k) y (omega arith) in
+    let t₂ : take (at + k + (m - k)) d₂ ≡ take (at + k) d₁ ++ take (m - k) y = rw e₂ (take-paste d₁ (at + k) y (m - k) (start-room (length d) (length d₁) at m k p e ke l₁) enough) in
+    let w : take (at + k + (m - k)) d₂ ≡ d₂ = take-all (at + k + (m - k)) d₂ (all-filled (length d) (length d₂) at m k p e ke l₂) in
+    let v : take (m - k) y ≡ y = take-all (m - k) y (as-long (m - k) (length y) (sym ly)) in
     sym w ∙ t₂ ∙ rw (t₁, v, fill-taken m k ke, ← he, sub-zero) (append-assoc (take at d) (take k h) y)
 
 -- less than a header
