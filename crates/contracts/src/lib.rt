@@ -1,16 +1,24 @@
-// What a call promises, and an offer and a draw of their answer and buffer, of functions that only hand it on: a wrong answer in
-// the place of one is refused by the contract alone.
+// What a word read and a call promise, and an offer and a draw of their answer and buffer, of functions that only hand it on: a
+// wrong answer in the place of one is refused by the contract alone.
 ghost use mathlib.Core.Path.{_≡_};
+ghost use Rattle.golay.specs.Answers.{Decodes};
 ghost use Rattle.receiver.specs.State.{Able};
 ghost use Rattle.receiver.specs.Call.{callOf, Gives};
 ghost use Rattle.sender.specs.Answers.{givenBy};
 ghost use Rattle.sender.specs.Opening.{Sound};
 ghost use Rattle.sender.specs.Offering.{ordinaryOffered};
 ghost use Rattle.sender.specs.Drawing.{drew};
+use golay::Decoded;
 use receiver::Receiver;
 use receiver::Step;
 use sender::Answer;
 use sender::Sender;
+
+pub fn decode(w: u32) -> Decoded
+    ensures { λ r. ⌜ Decodes w r ⌝ }
+{
+    golay::decode(w)
+}
 
 pub fn next(r: Receiver, tp: &[u8], room: &mut [u8]) -> Step
     requires { ⌜ Able r ⌝ }
