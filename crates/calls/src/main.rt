@@ -44,15 +44,22 @@ pub enum Next {
     Go(State),
 }
 
+// The number of four bytes at a place of an entry's head.
+fn number_at(h: &[u8; 25], at: usize) -> usize
+    requires { ⌜ at ≤ 21 ⌝ }
+{
+    digits::from_four(h[at], h[at + 1], h[at + 2], h[at + 3])
+}
+
 fn entry_of(h: &[u8; 25]) -> Entry {
     Entry {
         op: h[0],
-        a: digits::from_four(h[1], h[2], h[3], h[4]),
-        b: digits::from_four(h[5], h[6], h[7], h[8]),
-        c: digits::from_four(h[9], h[10], h[11], h[12]),
-        d: digits::from_four(h[13], h[14], h[15], h[16]),
-        e: digits::from_four(h[17], h[18], h[19], h[20]),
-        n: digits::from_four(h[21], h[22], h[23], h[24]),
+        a: number_at(h, 1),
+        b: number_at(h, 5),
+        c: number_at(h, 9),
+        d: number_at(h, 13),
+        e: number_at(h, 17),
+        n: number_at(h, 21),
     }
 }
 
