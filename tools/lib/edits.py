@@ -1,4 +1,5 @@
 """Wrong answers: edits of a crate in the form of must-fail edits, the functions that they change, and what refused them."""
+import glob
 import os
 import re
 
@@ -39,14 +40,14 @@ class Edit:
                 out.write(text.replace(old, new))
 
     def function(self, crate):
-        """The one function whose body alone it changes, if it is so."""
+        """The one function that it changes, if it is so: its body, or its contract where nothing in the crate calls it."""
         found = set()
         for file, old, _ in self.changes:
             if not file or not file.startswith('src/') or not old or not os.path.isfile(f'{crate}/{file}'):
                 return None
             text = read(crate, file)
             name, in_body = functions(crate, file)[text.count('\n', 0, max(text.find(old), 0))]
-            found.add(name if in_body else None)
+            found.add(name if in_body or name and is_uncalled(crate, name) else None)
         return found.pop() if len(found) == 1 else None
 
 
@@ -72,6 +73,13 @@ def functions(crate, file):
         elif name and re.fullmatch(r'(\S.* )?\{', line):
             in_body = True
     return found
+
+
+def is_uncalled(crate, name):
+    """Whether a function is named nowhere in the crate's code but where it is declared: its contract is then its own."""
+    word = re.compile(rf'\b{name.rpartition("::")[2]}\b')
+    return sum(len(word.findall(read(crate, os.path.relpath(path, crate))))
+               for path in glob.glob(f'{crate}/src/**/*.rt', recursive=True)) == 1
 
 
 def facts(said, crate):
