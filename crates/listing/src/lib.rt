@@ -41,9 +41,9 @@ fn numbers(content: u64, bytes: u64, out: &mut [u8], at: usize) -> usize
     requires { ⌜ at + 42 ≤ length (now out) ⌝ }
     ensures { λ r. ⌜ record { bytes = now (out .exit); at = r } ≡ put (now (out .entry)) at (decimal content ++ (32 ∷ []) ++ decimal bytes ++ (10 ∷ [])) ⌝ }
 {
-    let mut end = block::put_number(out, at, content);
+    let mut end = block::put_small(out, at, content);
     end = piece(out, end, b" ");
-    end = block::put_number(out, end, bytes);
+    end = block::put_small(out, end, bytes);
     piece(out, end, b"\n")
 }
 
