@@ -111,6 +111,19 @@ enough (suc f) zero n most le = absurd (omega arith)
 enough (suc f) (suc g) n most le =
     ap (λ (x : List ℕ). cond (ltb n 10) ((48 + n) ∷ []) (x ++ (48 + n % 10) ∷ [])) (enough f g (n / 10) (fewer f n most) (omega arith))
 
+-- the last digit behind the others
+pub last-digit : (n : ℕ) → 10 ≤ n → n < 18446744073709551616 → decimal n ≡ decimal (n / 10) ++ (48 + n % 10) ∷ []
+unfolding decimal
+last-digit n some few =
+    let most : n / 10 < 10 ^ suc 18 = omega arith in
+    last 19 n some ∙ ap (λ (x : List ℕ). x ++ (48 + n % 10) ∷ []) (enough 18 19 (n / 10) most (omega arith))
+
+pub at-most-eight : (n : ℕ) → n < 100000000 → length (decimal n) ≤ 8
+unfolding decimal
+at-most-eight n few =
+    let most : n < 10 ^ suc 7 = omega arith in
+    omega (arith, ap length (enough 7 19 n most (omega arith)), digits-most 8 n)
+
 step : (j n : ℕ) (t : List ℕ) → 10 ≤ n → decimalIn (suc j) n ++ t ≡ decimalIn j (n / 10) ++ ((48 + n % 10) ∷ t)
 step j n t some = ap (λ (x : List ℕ). x ++ t) (last j n some) ∙ append-assoc (decimalIn j (n / 10)) ((48 + n % 10) ∷ []) t
 

@@ -160,9 +160,9 @@ pub fn put_small(out: &mut [u8], at: usize, n: u64) -> usize
         one(out, at, n);
         return at + 1;
     }
-    if n < 100 {
-        two(out, at, n);
-        return at + 2;
+    if 100 <= n {
+        return put_number(out, at, n);
     }
-    put_number(out, at, n)
+    two(out, at, n);
+    at + 2
 }

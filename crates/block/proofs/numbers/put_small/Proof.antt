@@ -21,29 +21,29 @@ returns c =
     let a = s .args in
     as-put (a .out .now) _ (a .at) 1 (a .n) (omega (arith, s .pre)) (one-digit (a .n) (omega arith)) (c .before .before .one .ensures)
 
+put-number-requires : tie.Need-put-number-requires
+put-number-requires c κs = search needs
+
+same-length-2 : tie.Need-same-length-2
+same-length-2 c = search needs
+
+returns-2 : tie.Need-returns-2
+returns-2 c = search needs
+
 two-requires : tie.Need-two-requires
 two-requires c κs = search needs
 
 add-result-2 : tie.Need-add-result-2
 add-result-2 c = search needs
 
-same-length-2 : tie.Need-same-length-2
-same-length-2 c = search needs
-
-returns-2 : tie.Need-returns-2
-returns-2 c =
-    let s = c .before .before .before .before .before .before .before in
-    let a = s .args in
-    as-put (a .out .now) _ (a .at) 2 (a .n) (s .pre) (two-digits (a .n) (omega arith) (omega arith)) (c .before .before .two .ensures)
-
-put-number-requires : tie.Need-put-number-requires
-put-number-requires c κs = search needs
-
 same-length-3 : tie.Need-same-length-3
 same-length-3 c = search needs
 
 returns-3 : tie.Need-returns-3
-returns-3 c = search needs
+returns-3 c =
+    let s = c .before .before .before .before .before .before .before in
+    let a = s .args in
+    as-put (a .out .now) _ (a .at) 2 (a .n) (s .pre) (two-digits (a .n) (omega arith) (omega arith)) (c .before .before .two .ensures)
 
 pub put-small-spec : {M : Type 1} → statement M
 put-small-spec =
@@ -53,10 +53,10 @@ put-small-spec =
     add-result
     same-length
     returns
-    two-requires
-    add-result-2
+    put-number-requires
     same-length-2
     returns-2
-    put-number-requires
+    two-requires
+    add-result-2
     same-length-3
     returns-3)
