@@ -150,7 +150,7 @@ fn list(setup: Setup, unread: Unread, block: &mut [u8])
     let run = Run {
         receiver,
         done: 0,
-        ten: listing::first(),
+        ten: listing::first_ten(),
         at,
         from,
     };

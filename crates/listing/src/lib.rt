@@ -17,7 +17,7 @@ use receiver::Step;
 
 mod tens;
 
-pub use tens::first;
+pub use tens::first_ten;
 
 // Ten numbers: the last one, the digits that are the same in all of them, and how many digits each has.
 pub struct Ten {

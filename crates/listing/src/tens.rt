@@ -8,7 +8,7 @@ use crate::Ten;
 use crate::piece;
 
 // The numbers below ten.
-pub fn first() -> Ten
+pub fn first_ten() -> Ten
     ensures { λ r. ⌜ Kept r ⌝ }
 {
     Ten {

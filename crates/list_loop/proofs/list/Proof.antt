@@ -36,8 +36,8 @@ slice-aggregate-header c = search needs
 header-requires : tie.Need-header-requires
 header-requires c κs = search needs
 
-first-requires : tie.Need-first-requires
-first-requires c κs = search needs
+first-ten-requires : tie.Need-first-ten-requires
+first-ten-requires c κs = search needs
 
 slice-aggregate-blocks : tie.Need-slice-aggregate-blocks
 slice-aggregate-blocks c = search needs
@@ -52,7 +52,7 @@ blocks-requires c κs =
     let is = c .before .before .before .before .before .before .before .before .receiver .given .1 in (
       record {
         able = subst AbleIf is (opened .able);
-        ten = c .before .before .before .first .ensures;
+        ten = c .before .before .before .first-ten .ensures;
         room = omega arith;
         from = p .1 .0;
         end = p .1 .1;
@@ -81,7 +81,7 @@ list-spec =
     returns
     slice-aggregate-header
     header-requires
-    first-requires
+    first-ten-requires
     slice-aggregate-blocks
     slice-aggregate-blocks-2
     blocks-requires
