@@ -8,7 +8,7 @@ use borrow.Author.Tests.{le-leb, lt-leb}
 use borrow.Rule.Slice.PartMut.{putMid, post-is}
 use lib.Dec.{leb}
 use lib.ListN.{length, take, drop, length-append, length-drop, drop-of-length-le, take-append-drop}
-use lib.Seq.{take-length, length-take-le, take-at, drop-drop, drop-append-add}
+use lib.Seq.{take-length, length-take-le, take-at, drop-drop, drop-append-add, take-append-le, take-append-add}
 use Rattle.queue.specs.Ring.{copied}
 use Rattle.block.specs.Block.{Block, placed, put}
 
@@ -85,6 +85,38 @@ module _ (d : List ℕ) (n : ℕ) (s t : List ℕ) (h : n + length s + length t 
       ∙ ap (λ (x : List ℕ). blockOf x (n + length s + length t)) placed-twice
       ∙ ap (blockOf (placed d n (s ++ t))) ends
       ∙ sym (fits d n (s ++ t) both)
+
+-- what is placed over the end of what was placed before, and reaches as far
+module _ (d t w : List ℕ) (n k : ℕ) (some : k ≤ length t) (far : length t ≤ k + length w) (h : n + k + length w ≤ length d) where
+  size : length (take n d) ≡ n
+  size = length-take-le n d (omega arith)
+
+  sized : length (take n d ++ t) ≡ n + length t
+  sized = front d n t (omega arith)
+
+  kept : take (n + k) (placed d n t) ≡ take n d ++ take k t
+  kept =
+      take-append-le (n + k) (take n d ++ t) (drop (n + length t) d) (omega (arith, sized))
+      ∙ ap (λ (i : ℕ). take (i + k) (take n d ++ t)) (sym size)
+      ∙ take-append-add (take n d) t k
+
+  reach : (j : ℕ) → j + length t ≡ k + length w → drop (n + k + length w) (placed d n t) ≡ drop (n + k + length w) d
+  reach j e =
+      let far-end : n + k + length w ≡ length (take n d ++ t) + j = omega (arith, sized) in
+      let same-end : n + length t + j ≡ n + k + length w = omega arith in
+      ap (λ (i : ℕ). drop i (placed d n t)) far-end
+      ∙ drop-append-add (take n d ++ t) (drop (n + length t) d) j
+      ∙ drop-drop j (n + length t) d
+      ∙ ap (λ (i : ℕ). drop i d) same-end
+
+  pub overlaid : placed (placed d n t) (n + k) w ≡ placed d n (take k t ++ w)
+  overlaid =
+      let left : k + length w - length t + length t ≡ k + length w = omega arith in
+      let end : n + k + length w ≡ n + length (take k t ++ w) = rw (length-append, length-take-le k t some) (omega arith) in
+      ap (λ (x : List ℕ). x ++ w ++ drop (n + k + length w) (placed d n t)) kept
+      ∙ ap (λ (x : List ℕ). take n d ++ take k t ++ w ++ x) (reach (k + length w - length t) left)
+      ∙ ap (λ (x : List ℕ). x ++ drop (n + k + length w) d) (append-assoc (take n d) (take k t) w)
+      ∙ ap (λ (i : ℕ). take n d ++ (take k t ++ w) ++ drop i d) end
 
 -- one piece after another
 pub then : (d y z s t : List ℕ) (n r q : ℕ) → n + length s + length t ≤ length d → blockOf y r ≡ put d n s → blockOf z q ≡ put y r t → blockOf z q ≡ put d n (s ++ t)

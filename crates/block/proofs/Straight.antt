@@ -1,19 +1,19 @@
 -- A number's decimal digits, written from the first one on: up to four at once, and four behind those of what is left of the number.
 -- Assumes nothing.
-use Prim.Native.Nat.{ℕ, zero, suc, _+_, _*_, _/_, _%_, _^_, _≤_, _<_}
+use Prim.Native.Nat.{ℕ, zero, suc, _+_, _-_, _*_, _/_, _%_, _^_, _≤_, _<_}
 use mathlib.Core.Path.{_≡_, ap, ap₂, sym, _∙_}
 use mathlib.Core.Bool.{cond}
 use mathlib.Core.List.{List, [], _∷_, _++_, append-assoc}
 use native.Mathlib.Omega.{arith}
 use lib.Dec.{ltb}
-use lib.ListN.{length, take, drop, set}
+use lib.ListN.{length, take, drop, set, length-set}
 use lib.Seq.{set-split}
 use Rattle.block.specs.Block.{Block, placed, put}
 use Rattle.block.specs.Decimal.{decimalIn, decimal, padded}
 use Rattle.block.proofs.Decimals.{last, single, fewer, digits-most, padded-long}
 use Rattle.block.proofs.Laws.{fits, length-placed, placed-twice, then, blockOf}
 
--- ---- one digit, and one more
+-- ---- one digit, two, and two more
 
 pub one-set : (d : List ℕ) (at v : ℕ) → at < length d → set d at v ≡ placed d at (v ∷ [])
 one-set d at v h =
@@ -22,12 +22,45 @@ one-set d at v h =
     ∙ sym (append-assoc (take at d) (v ∷ []) (drop (suc at) d))
     ∙ ap (λ (k : ℕ). take at d ++ (v ∷ []) ++ drop k d) next
 
-pub one-more : (d : List ℕ) (at k n : ℕ) → at + suc k ≤ length d
-    → placed (placed d at (padded k (n / 10))) (at + k) (padded 1 n) ≡ placed d at (padded (suc k) n)
-one-more d at k n h =
-    let size = padded-long k (n / 10) in
-    ap (λ (i : ℕ). placed (placed d at (padded k (n / 10))) (at + i) (padded 1 n)) (sym size)
-    ∙ placed-twice d at (padded k (n / 10)) (padded 1 n) (omega (arith, size))
+pub next-in : (d : List ℕ) (at v : ℕ) → at + 2 ≤ length d → at + 1 < length (set d at v)
+next-in d at v h = omega (arith, length-set d at v)
+
+pub two-set : (d : List ℕ) (at v w : ℕ) → at + 2 ≤ length d → set (set d at v) (at + 1) w ≡ placed d at (v ∷ w ∷ [])
+two-set d at v w h =
+    let first : set d at v ≡ placed d at (v ∷ []) = one-set d at v (omega arith) in
+    let long : length (placed d at (v ∷ [])) ≡ length d = length-placed d at (v ∷ []) (omega arith) in
+    ap (λ (x : List ℕ). set x (at + 1) w) first
+    ∙ one-set (placed d at (v ∷ [])) (at + 1) w (omega arith)
+    ∙ placed-twice d at (v ∷ []) (w ∷ []) (omega arith)
+
+-- the two digits of a pair
+pair-is : (n : ℕ) → 256 * (n % 100) + 12336 - 2559 * (n / 10 % 10) ≡ (48 + n / 10 % 10) + 256 * (48 + n % 10)
+pair-is n =
+    let hundreds : n / 10 / 10 ≡ n / 100 = omega arith in
+    let both : n % 100 ≡ 10 * (n / 10 % 10) + n % 10 = omega (arith, hundreds) in
+    omega (arith, both)
+
+low-byte : (a b : ℕ) → a < 256 → (a + 256 * b) % 256 ≡ a
+low-byte a b h = omega arith
+
+high-byte : (a b : ℕ) → a < 256 → (a + 256 * b) / 256 ≡ b
+high-byte a b h = omega arith
+
+pub pair-first : (n : ℕ) → (256 * (n % 100) + 12336 - 2559 * (n / 10 % 10)) % 256 ≡ 48 + n / 10 % 10
+pair-first n = ap (λ (x : ℕ). x % 256) (pair-is n) ∙ low-byte (48 + n / 10 % 10) (48 + n % 10) (omega arith)
+
+pub pair-second : (n : ℕ) → (256 * (n % 100) + 12336 - 2559 * (n / 10 % 10)) / 256 ≡ 48 + n % 10
+pair-second n = ap (λ (x : ℕ). x / 256) (pair-is n) ∙ high-byte (48 + n / 10 % 10) (48 + n % 10) (omega arith)
+
+pub two-more : (d : List ℕ) (at k n : ℕ) → at + (2 + k) ≤ length d
+    → placed (placed d at (padded k (n / 100))) (at + k) (padded 2 n) ≡ placed d at (padded (suc (suc k)) n)
+two-more d at k n h =
+    let size = padded-long k (n / 100) in
+    let front : n / 100 ≡ n / 10 / 10 = omega arith in
+    ap (λ (i : ℕ). placed (placed d at (padded k (n / 100))) (at + i) (padded 2 n)) (sym size)
+    ∙ placed-twice d at (padded k (n / 100)) (padded 2 n) (omega (arith, size))
+    ∙ ap (λ (x : ℕ). placed d at (padded k x ++ padded 2 n)) front
+    ∙ ap (placed d at) (sym (append-assoc (padded k (n / 10 / 10)) ((48 + n / 10 % 10) ∷ []) ((48 + n % 10) ∷ [])))
 
 -- ---- a number of one digit to four
 
@@ -77,6 +110,19 @@ enough zero g n most le = single zero n (omega arith) ∙ sym (single g n (omega
 enough (suc f) zero n most le = absurd (omega arith)
 enough (suc f) (suc g) n most le =
     ap (λ (x : List ℕ). cond (ltb n 10) ((48 + n) ∷ []) (x ++ (48 + n % 10) ∷ [])) (enough f g (n / 10) (fewer f n most) (omega arith))
+
+-- the last digit behind the others
+pub last-digit : (n : ℕ) → 10 ≤ n → n < 18446744073709551616 → decimal n ≡ decimal (n / 10) ++ (48 + n % 10) ∷ []
+unfolding decimal
+last-digit n some few =
+    let most : n / 10 < 10 ^ suc 18 = omega arith in
+    last 19 n some ∙ ap (λ (x : List ℕ). x ++ (48 + n % 10) ∷ []) (enough 18 19 (n / 10) most (omega arith))
+
+pub at-most-eight : (n : ℕ) → n < 100000000 → length (decimal n) ≤ 8
+unfolding decimal
+at-most-eight n few =
+    let most : n < 10 ^ suc 7 = omega arith in
+    omega (arith, ap length (enough 7 19 n most (omega arith)), digits-most 8 n)
 
 step : (j n : ℕ) (t : List ℕ) → 10 ≤ n → decimalIn (suc j) n ++ t ≡ decimalIn j (n / 10) ++ ((48 + n % 10) ∷ t)
 step j n t some = ap (λ (x : List ℕ). x ++ t) (last j n some) ∙ append-assoc (decimalIn j (n / 10)) ((48 + n % 10) ∷ []) t

@@ -5,6 +5,7 @@ ghost use Rattle.block.specs.Block.{put as Block·put};
 mod numbers;
 
 pub use numbers::put_number;
+pub use numbers::put_small;
 
 // Puts s behind the first `at` bytes of out, and answers how many are held then.
 pub fn put(out: &mut [u8], at: usize, s: &[u8]) -> usize

@@ -13,13 +13,14 @@ fn one(out: &mut [u8], at: usize, n: u64)
     out[at] = 48 + (n % 10) as u8;
 }
 
-// Writes n's last two digits.
+// Writes n's last two digits, as one number of two bytes.
 fn two(out: &mut [u8], at: usize, n: u64)
     requires { ⌜ at + 2 ≤ length (now out) ⌝ }
     ensures { λ _. ⌜ now (out .exit) ≡ placed (now (out .entry)) at (padded 2 n) ⌝ }
 {
-    one(out, at, n / 10);
-    one(out, at + 1, n);
+    let pair = 256 * (n % 100) + 12336 - 2559 * (n / 10 % 10);
+    out[at] = (pair % 256) as u8;
+    out[at + 1] = (pair / 256) as u8;
 }
 
 // Writes n's last three digits.
@@ -27,8 +28,8 @@ fn three(out: &mut [u8], at: usize, n: u64)
     requires { ⌜ at + 3 ≤ length (now out) ⌝ }
     ensures { λ _. ⌜ now (out .exit) ≡ placed (now (out .entry)) at (padded 3 n) ⌝ }
 {
-    two(out, at, n / 10);
-    one(out, at + 2, n);
+    one(out, at, n / 100);
+    two(out, at + 1, n);
 }
 
 // Writes n's last four digits.
@@ -36,8 +37,8 @@ fn four(out: &mut [u8], at: usize, n: u64)
     requires { ⌜ at + 4 ≤ length (now out) ⌝ }
     ensures { λ _. ⌜ now (out .exit) ≡ placed (now (out .entry)) at (padded 4 n) ⌝ }
 {
-    three(out, at, n / 10);
-    one(out, at + 3, n);
+    two(out, at, n / 100);
+    two(out, at + 2, n);
 }
 
 // Puts a number of at most four digits, where four have room.
@@ -148,4 +149,20 @@ pub fn put_number(out: &mut [u8], at: usize, n: u64) -> usize
         return put_any(out, at, n);
     }
     put_roomy(out, at, n)
+}
+
+// Puts n, which most often has one digit or two, where two have room.
+pub fn put_small(out: &mut [u8], at: usize, n: u64) -> usize
+    requires { ⌜ at + 2 ≤ length (now out) ⌝ }
+    ensures { λ r. ⌜ record { bytes = now (out .exit); at = r } ≡ put (now (out .entry)) at (decimal n) ⌝ }
+{
+    if n < 10 {
+        one(out, at, n);
+        return at + 1;
+    }
+    if 100 <= n {
+        return put_number(out, at, n);
+    }
+    two(out, at, n);
+    at + 2
 }

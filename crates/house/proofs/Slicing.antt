@@ -43,6 +43,20 @@ module _ (p : Place) (s : List ℕ) (byte : getD s 1 0 < 256) where
   pub other-second : (getD s 1 0 ≡ 7 → ⊥) → Bad Mark ≡ judgedOf p s
   other-second h = no-mark (λ e. h (omega (arith, e)))
 
+-- ---- a TP's head
+
+four-bytes : (a b c d : ℕ) → a < 256 → b < 256 → c < 256 → number 0 (d ∷ c ∷ b ∷ a ∷ []) ≡ 0x000407C7
+    → (a ≡ 199) × ((b ≡ 7) × ((c ≡ 4) × (d ≡ 0)))
+four-bytes a b c d ha hb hc e = (omega arith, (omega arith, (omega arith, omega arith)))
+
+module _ (s : List ℕ) (byte : (i : ℕ) → getD s i 0 < 256) where
+  pub tp-head : (n : ℕ) → number 0 (getD s 3 0 ∷ getD s 2 0 ∷ getD s 1 0 ∷ getD s 0 0 ∷ []) ≡ 0x000407C7
+      → n ≡ number 0 (getD s 4 0 ∷ getD s 5 0 ∷ getD s 6 0 ∷ getD s 7 0 ∷ []) → n ≤ 32768 → Good (Packet n) ≡ judgedOf Listing s
+  unfolding judgedOf ruled
+  tp-head n start long few =
+      let e = four-bytes (getD s 0 0) (getD s 1 0) (getD s 2 0) (getD s 3 0) (byte 0) (byte 1) (byte 2) start in
+      rw (e .0, e .1 .0, e .1 .1 .0, e .1 .1 .1, ← long, le-leb n 32768 few)
+
 -- ---- read
 
 pub too-short : (p : Place) (s : List ℕ) → length s < 8 → atHand p s ≡ A.Part

@@ -1,7 +1,9 @@
 // A record's head: judged as it was read, and made to be written.
 ghost use mathlib.Core.Path.{_≡_};
+ghost use mathlib.Core.List.{[], _∷_};
 ghost use Prim.Native.Nat.{_≤_};
-ghost use lib.ListN.{length};
+ghost use lib.ListN.{length, getD};
+ghost use Rattle.digits.specs.Digits.{number};
 ghost use Rattle.house.specs.Records.{lengthOf, headOf, kindOf, contentOf, isRead, contentFits, lengthFits, recordOf, ruled, judgedOf};
 use crate::Fault;
 use crate::Judged;
@@ -138,8 +140,16 @@ fn rule(place: Place, kind: u8, content: u8, length: usize) -> Judged
     Judged::Good(record_of(kind, content, length))
 }
 
-// Judges the head at the start of s.
-pub fn judge(place: Place, s: &[u8]) -> Judged
+// A head's first four bytes as one number, least significant first: the compiler makes it one read.
+fn start_of(s: &[u8]) -> usize
+    requires { ⌜ 8 ≤ length (now s) ⌝ }
+    ensures { λ r. ⌜ r ≡ number 0 (getD (now (s .entry)) 3 0 ∷ getD (now (s .entry)) 2 0 ∷ getD (now (s .entry)) 1 0 ∷ getD (now (s .entry)) 0 0 ∷ []) ⌝ }
+{
+    digits::from_four(s[3], s[2], s[1], s[0])
+}
+
+// Judges the head at the start of s, byte by byte.
+fn judge_bytes(place: Place, s: &[u8]) -> Judged
     requires { ⌜ 8 ≤ length (now s) ⌝ }
     ensures { λ r. ⌜ r ≡ judgedOf place (now (s .entry)) ⌝ }
 {
@@ -151,4 +161,22 @@ pub fn judge(place: Place, s: &[u8]) -> Judged
     }
     let length = digits::from_four(s[4], s[5], s[6], s[7]);
     rule(place, s[2], s[3], length)
+}
+
+// Judges the head at the start of s: a TP's at once, where one is looked for.
+pub fn judge(place: Place, s: &[u8]) -> Judged
+    requires { ⌜ 8 ≤ length (now s) ⌝ }
+    ensures { λ r. ⌜ r ≡ judgedOf place (now (s .entry)) ⌝ }
+{
+    let Place::Listing = place else {
+        return judge_bytes(place, s);
+    };
+    if start_of(s) != 0x000407C7 {
+        return judge_bytes(place, s);
+    }
+    let length = digits::from_four(s[4], s[5], s[6], s[7]);
+    if 32768 < length {
+        return judge_bytes(place, s);
+    }
+    Judged::Good(Record::Packet { length })
 }

@@ -39,7 +39,7 @@ read-on d u b v o f t =
 pub data Comes (s : Setting) (till : ℕ) (block : List ℕ) (run : Run) (m out : List ℕ) : Type 0 where
   begins : Begins s run m out → Comes s till block run m out
   goes : {input unread held : List ℕ} {b : Run} → Goes s input unread held b m → (more : List ℕ) → unreadIn block (run .from) till ≡ unread ++ more
-      → run ≡ record { receiver = b .receiver; done = b .done; at = 0; from = run .from } → Comes s till block run m out
+      → run ≡ record { receiver = b .receiver; done = b .done; ten = b .ten; at = 0; from = run .from } → Comes s till block run m out
 
 -- behind them
 record Went (s : Setting) (unread : List ℕ) (r : Run) (m : List ℕ) : Type 0 where
@@ -57,7 +57,7 @@ went {till = till} {block = block} {m = m} {out = out} {r = r} {m′ = m′} {ou
 pub round : {s : Setting} {till : ℕ} {block : List ℕ} {run : Run} {m out : List ℕ} {r : Run} {m′ out′ : List ℕ} {gone : ℕ} {block′ : List ℕ} {v : Unread}
     → Comes s till block run m out → Listed till block run m out r m′ out′ → r .from ≤ till → till ≤ length block
     → Onward block (record { gone = gone; from = r .from; till = till }) block′ v
-    → Comes s (v .till) block′ (record { receiver = r .receiver; done = r .done; at = 0; from = v .from }) m′ out′
+    → Comes s (v .till) block′ (record { receiver = r .receiver; done = r .done; ten = r .ten; at = 0; from = v .from }) m′ out′
 round {till = till} {block = block} {r = r} {gone = gone} {block′ = block′} {v = v} c l f t o =
     let u : Unread = record { gone = gone; from = r .from; till = till } in
     goes (went c l .goes-so) (behind block u block′ v) (read-on block u block′ v o f t) refl

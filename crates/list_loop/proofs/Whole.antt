@@ -171,7 +171,7 @@ stands {s} (first {till = till} {block = block} {m = m} {out = out} {m′ = m′
     (lists-on s input _ block till (standing a m) (record { records = []; taken = T.nothing; now = inl (begun s a m out b) }) (l .taken))
 stands {s} (next {input = input} {unread = unread} {held = held} {till = till} {from = from} {block = block} {m = m} {m′ = m′} {b = b} {r = r} g more e l) =
     let t = stands g in
-    let here = standing (record { receiver = b .receiver; done = b .done; at = 0; from = from }) m in
+    let here = standing (record { receiver = b .receiver; done = b .done; ten = b .ten; at = 0; from = from }) m in
     subst⁻¹ (λ (z : List ℕ). Stands s (input ++ more) (unreadIn block (r .from) till) (held ++ z) (r .receiver) (r .done) m′) (l .held)
     (lists-on s (input ++ more) held block till here (subst⁻¹ (λ (u : List ℕ). Stands s (input ++ more) u held (b .receiver) (b .done) m) e (read-on t more)) (l .taken))
 

@@ -1,4 +1,4 @@
--- What holds from find to find, from record to record and from block to block: the receiver can be called again, what is taken
+-- What holds from find to find, from record to record and from block to block: the receiver can be called again, the ten is kept, what is taken
 -- lies within the input block, a line has room in the output block, no count overflows, and what is held are the lines of the calls
 -- that the records taken ask for. Assumes nothing.
 use Prim.Native.Nat.{ℕ, _+_, _≤_, _<_}
@@ -13,6 +13,7 @@ use Rattle.house.specs.declared.Place.the-variants.{Listing}
 use Rattle.house.specs.declared.Record.{Record}
 use Rattle.house.specs.declared.Record.the-variants.{Setup, Ordinary, Low, Draw, Packet, Gap}
 use Rattle.listing.specs.Hearing.{Hears, Ends}
+use Rattle.listing.specs.Tens.{Kept}
 use Rattle.receiver.specs.Call.{gapOf}
 use Rattle.receiver.specs.State.{Able}
 use Rattle.receiver.specs.declared.Receiver.{Receiver}
@@ -21,6 +22,7 @@ use Rattle.list_loop.specs.declared.Run.{Run}
 -- before a record with n bytes of data, with an output block of o bytes
 pub record Fit (r : Run) (n o : ℕ) : Type 0 where
   pub able : Able (r .receiver)
+  pub ten : Kept (r .ten)
   pub room : 61520 ≤ o
   pub held : r .at < 61440
   pub count : r .done < 18446744073709551615
@@ -29,6 +31,7 @@ pub record Fit (r : Run) (n o : ℕ) : Type 0 where
 -- behind it, or where the output block is full: no more TPs are new than bytes were taken, and something was taken or put
 pub record Onward (first : Run) (n : ℕ) (r : Run) : Type 0 where
   pub able : Able (r .receiver)
+  pub ten : Kept (r .ten)
   pub held : first .at ≤ r .at
   pub from : first .from ≤ r .from
   pub end : r .from ≤ first .from + 8 + n
@@ -38,6 +41,7 @@ pub record Onward (first : Run) (n : ℕ) (r : Run) : Type 0 where
 -- before the records of an input block of b bytes
 pub record Ready (r : Run) (till b o : ℕ) : Type 0 where
   pub able : Able (r .receiver)
+  pub ten : Kept (r .ten)
   pub room : 61520 ≤ o
   pub from : r .from ≤ till
   pub end : till ≤ b
@@ -47,6 +51,7 @@ pub record Ready (r : Run) (till b o : ℕ) : Type 0 where
 -- behind them
 pub record Ahead (first : Run) (till : ℕ) (r : Run) : Type 0 where
   pub able : Able (r .receiver)
+  pub ten : Kept (r .ten)
   pub from : first .from ≤ r .from
   pub end : r .from ≤ till
   pub count : r .done + first .from ≤ first .done + r .from

@@ -53,7 +53,7 @@ pub data Goes (s : Setting) : List ℕ → List ℕ → List ℕ → Run → Lis
       → Goes s (unreadIn block (a .from) till) (unreadIn block (r .from) till) (take (r .at) out′) r m′
   next : {input unread held : List ℕ} {till from : ℕ} {block m out m′ out′ : List ℕ} {b r : Run} → Goes s input unread held b m → (more : List ℕ)
       → unreadIn block from till ≡ unread ++ more
-      → Listed till block (record { receiver = b .receiver; done = b .done; at = 0; from = from }) m out r m′ out′
+      → Listed till block (record { receiver = b .receiver; done = b .done; ten = b .ten; at = 0; from = from }) m out r m′ out′
       → Goes s (input ++ more) (unreadIn block (r .from) till) (held ++ take (r .at) out′) r m′
 
 -- where the output block is full within a TP: its first lines are held, and the others are still to come

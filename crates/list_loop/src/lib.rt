@@ -15,6 +15,7 @@ use house::Fault;
 use house::Place;
 use house::Record;
 use house::Setup;
+use listing::Ten;
 use receiver::Opened;
 use receiver::Receiver;
 
@@ -23,6 +24,7 @@ use receiver::Receiver;
 struct Run {
     receiver: Receiver,
     done: u64,
+    ten: Ten,
     at: usize,
     from: usize,
 }
@@ -34,18 +36,21 @@ fn finds(first: Run, tp: &[u8], room: &mut [u8], out: &mut [u8]) -> Run
     ensures { λ r. ⌜ Found (now (tp .entry)) first (now (room .entry)) (now (out .entry)) r (now (room .exit)) (now (out .exit)) ⌝ }
 {
     let mut receiver = first.receiver;
+    let mut ten = first.ten;
     let mut at = first.at;
     let number = first.done + 1;
     while at < FULL {
-        let listed = listing::step(receiver, number, tp, room, out, at);
+        let listed = listing::step(receiver, ten, number, tp, room, out, at);
         let step = listed.step;
         receiver = step.receiver;
+        ten = listed.ten;
         at = listed.at;
         let find = step.find;
         if !receiver::lasts(find) {
             return Run {
                 receiver,
                 done: number,
+                ten,
                 at,
                 from: first.from + 8 + tp.len(),
             };
@@ -54,6 +59,7 @@ fn finds(first: Run, tp: &[u8], room: &mut [u8], out: &mut [u8]) -> Run
     Run {
         receiver,
         done: first.done,
+        ten,
         at,
         from: first.from,
     }
@@ -69,9 +75,11 @@ fn turn(run: Run, said: Record, data: &[u8], room: &mut [u8], out: &mut [u8]) ->
         return finds(run, data, room, out);
     }
     let receiver = run.receiver;
+    let ten = run.ten;
     Run {
         receiver: receiver::gap(receiver),
         done: run.done,
+        ten,
         at: run.at,
         from: run.from + 8,
     }
@@ -114,9 +122,11 @@ fn blocks(first: Run, input: Unread, block: &mut [u8], room: &mut [u8], out: &mu
         };
         let receiver = run.receiver;
         let done = run.done;
+        let ten = run.ten;
         run = Run {
             receiver,
             done,
+            ten,
             at: 0,
             from: next.from,
         };
@@ -140,6 +150,7 @@ fn list(setup: Setup, unread: Unread, block: &mut [u8])
     let run = Run {
         receiver,
         done: 0,
+        ten: listing::first_ten(),
         at,
         from,
     };

@@ -1,3 +1,4 @@
 pub mod Lines
+pub mod Tens
 pub mod Hearing
 pub mod Recordings

@@ -39,3 +39,14 @@ lineOf tp Refused = noticeLine tp (findNumber Refused)
 lineOf tp (Notice k) = noticeLine tp (findNumber (Notice k))
 lineOf tp (Low c start n) = lineWith tp lowWord c n
 lineOf tp (Ordinary c n) = lineWith tp ordinaryWord c n
+
+-- what stands behind the TP's number
+abbrev pub behind : List ℕ → ℕ → ℕ → List ℕ
+behind word c n = word ++ (decimal c ++ (0x20 ∷ []) ++ decimal n ++ (0x0A ∷ []))
+
+abbrev pub restOf : Find → List ℕ
+restOf Nothing = []
+restOf Refused = behind noticeWord 1 0
+restOf (Notice k) = behind noticeWord k 0
+restOf (Low c start n) = behind lowWord c n
+restOf (Ordinary c n) = behind ordinaryWord c n

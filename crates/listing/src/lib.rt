@@ -3,19 +3,39 @@
 ghost use mathlib.Core.Path.{_≡_};
 ghost use mathlib.Core.List.{[], _∷_, _++_};
 ghost use Prim.Native.Nat.{_+_, _≤_};
+ghost use lib.Dec.{leb};
 ghost use lib.ListN.{length};
 ghost use Rattle.block.specs.Block.{put};
 ghost use Rattle.block.specs.Decimal.{decimal};
 ghost use Rattle.receiver.specs.State.{Able};
 ghost use Rattle.receiver.specs.Call.{callOf, Gives};
-ghost use Rattle.listing.specs.Lines.{headerLine, lowWord, ordinaryWord, noticeWord, lineWith, lineOf};
+ghost use Rattle.listing.specs.Lines.{headerLine, lowWord, ordinaryWord, noticeWord, lineOf, behind, restOf};
+ghost use Rattle.listing.specs.Tens.{Kept};
 use receiver::Find;
 use receiver::Receiver;
 use receiver::Step;
 
-// What a call gave, and how many bytes of the output block are held.
+mod tens;
+
+pub use tens::first_ten;
+
+// Ten numbers: the last one, the digits that are the same in all of them, and how many digits each has.
+pub struct Ten {
+    pub last: u64,
+    pub text: [u8; 8],
+    pub places: usize,
+}
+
+// The ten to keep, and how many bytes of the output block are held.
+pub struct Numbered {
+    pub ten: Ten,
+    pub at: usize,
+}
+
+// What a call gave, the ten to keep, and how many bytes of the output block are held.
 pub struct Listed {
     pub step: Step,
+    pub ten: Ten,
     pub at: usize,
 }
 
@@ -41,78 +61,115 @@ fn numbers(content: u64, bytes: u64, out: &mut [u8], at: usize) -> usize
     requires { ⌜ at + 42 ≤ length (now out) ⌝ }
     ensures { λ r. ⌜ record { bytes = now (out .exit); at = r } ≡ put (now (out .entry)) at (decimal content ++ (32 ∷ []) ++ decimal bytes ++ (10 ∷ [])) ⌝ }
 {
-    let mut end = block::put_number(out, at, content);
+    let mut end = block::put_small(out, at, content);
     end = piece(out, end, b" ");
-    end = block::put_number(out, end, bytes);
+    end = block::put_small(out, end, bytes);
     piece(out, end, b"\n")
 }
 
-// Puts a notice's line, where the longest line has room.
-fn notice(number: u64, n: u64, out: &mut [u8], at: usize) -> usize
-    requires { ⌜ at + 80 ≤ length (now out) ⌝ }
-    ensures { λ r. ⌜ record { bytes = now (out .exit); at = r } ≡ put (now (out .entry)) at (lineWith number noticeWord n 0) ⌝ }
+// Puts what a notice's line has behind the TP's number.
+fn notice(n: u64, out: &mut [u8], at: usize) -> usize
+    requires { ⌜ at + 52 ≤ length (now out) ⌝ }
+    ensures { λ r. ⌜ record { bytes = now (out .exit); at = r } ≡ put (now (out .entry)) at (behind noticeWord n 0) ⌝ }
 {
-    let mut end = block::put_number(out, at, number);
-    end = piece(out, end, b" notice ");
+    let end = piece(out, at, b" notice ");
     numbers(n, 0, out, end)
 }
 
-// Puts low data's line, where the longest line has room.
-fn low(number: u64, content: u64, bytes: u64, out: &mut [u8], at: usize) -> usize
-    requires { ⌜ at + 80 ≤ length (now out) ⌝ }
-    ensures { λ r. ⌜ record { bytes = now (out .exit); at = r } ≡ put (now (out .entry)) at (lineWith number lowWord content bytes) ⌝ }
+// Low data's.
+fn low(content: u64, bytes: u64, out: &mut [u8], at: usize) -> usize
+    requires { ⌜ at + 52 ≤ length (now out) ⌝ }
+    ensures { λ r. ⌜ record { bytes = now (out .exit); at = r } ≡ put (now (out .entry)) at (behind lowWord content bytes) ⌝ }
 {
-    let mut end = block::put_number(out, at, number);
-    end = piece(out, end, b" low ");
+    let end = piece(out, at, b" low ");
     numbers(content, bytes, out, end)
 }
 
-// Puts ordinary data's line, where the longest line has room.
-fn ordinary(number: u64, content: u64, bytes: u64, out: &mut [u8], at: usize) -> usize
-    requires { ⌜ at + 80 ≤ length (now out) ⌝ }
-    ensures { λ r. ⌜ record { bytes = now (out .exit); at = r } ≡ put (now (out .entry)) at (lineWith number ordinaryWord content bytes) ⌝ }
+// Ordinary data's.
+fn ordinary(content: u64, bytes: u64, out: &mut [u8], at: usize) -> usize
+    requires { ⌜ at + 52 ≤ length (now out) ⌝ }
+    ensures { λ r. ⌜ record { bytes = now (out .exit); at = r } ≡ put (now (out .entry)) at (behind ordinaryWord content bytes) ⌝ }
 {
-    let mut end = block::put_number(out, at, number);
-    end = piece(out, end, b" ordinary ");
+    let end = piece(out, at, b" ordinary ");
     numbers(content, bytes, out, end)
 }
 
-// Puts the line of a find, where the longest line has room.
-fn spell(number: u64, find: Find, out: &mut [u8], at: usize) -> usize
-    requires { ⌜ at + 80 ≤ length (now out) ⌝ }
-    ensures { λ r. ⌜ record { bytes = now (out .exit); at = r } ≡ put (now (out .entry)) at (lineOf number find) ⌝ }
+// Puts what the line of a find has behind the TP's number, where the longest has room.
+fn rest(find: Find, out: &mut [u8], at: usize) -> usize
+    requires { ⌜ at + 52 ≤ length (now out) ⌝ }
+    ensures { λ r. ⌜ record { bytes = now (out .exit); at = r } ≡ put (now (out .entry)) at (restOf find) ⌝ }
 {
     match find {
         Find::Nothing => at,
-        Find::Refused => notice(number, 1, out, at),
-        Find::Notice(n) => notice(number, n as u64, out, at),
+        Find::Refused => notice(1, out, at),
+        Find::Notice(n) => notice(n as u64, out, at),
         Find::Low {
             content,
             start: _,
             len,
-        } => low(number, content as u64, len as u64, out, at),
-        Find::Ordinary { content, len } => ordinary(number, content as u64, len as u64, out, at),
+        } => low(content as u64, len as u64, out, at),
+        Find::Ordinary { content, len } => ordinary(content as u64, len as u64, out, at),
     }
+}
+
+// Puts the line of a find by way of a text of its own.
+fn by_text(number: u64, find: Find, out: &mut [u8], at: usize) -> usize
+    ensures { λ r. ⌜ record { bytes = now (out .exit); at = r } ≡ put (now (out .entry)) at (decimal number ++ restOf find) ⌝ }
+{
+    let mut text = [0u8; 80];
+    let end = block::put_number(&mut text, 0, number);
+    let n = rest(find, &mut text, end);
+    block::put(out, at, &text[0..n])
+}
+
+// Whether the longest line has room.
+fn has_room(size: usize, at: usize) -> bool
+    ensures { λ r. ⌜ r ≡ leb (at + 80) size ⌝ }
+{
+    if size < at {
+        return false;
+    }
+    80 <= size - at
 }
 
 // Puts the line of a find.
 pub fn line(number: u64, find: Find, out: &mut [u8], at: usize) -> usize
     ensures { λ r. ⌜ record { bytes = now (out .exit); at = r } ≡ put (now (out .entry)) at (lineOf number find) ⌝ }
 {
-    if out.len() < at {
+    if let Find::Nothing = find {
         return at;
     }
-    if 80 <= out.len() - at {
-        return spell(number, find, out, at);
+    if !has_room(out.len(), at) {
+        return by_text(number, find, out, at);
     }
-    let mut text = [0u8; 80];
-    let n = spell(number, find, &mut text, 0);
-    block::put(out, at, &text[0..n])
+    let end = block::put_number(out, at, number);
+    rest(find, out, end)
+}
+
+// Puts the line of a find that has one, its TP's number by the ten that is kept.
+fn line_in(ten: Ten, number: u64, find: Find, out: &mut [u8], at: usize) -> Numbered
+    requires { ⌜ Kept ten ⌝ }
+    requires { ⌜ 7 ≤ length (restOf find) ⌝ }
+    ensures { λ r. ⌜ Kept (r .ten) ⌝ }
+    ensures { λ r. ⌜ record { bytes = now (out .exit); at = r .at } ≡ put (now (out .entry)) at (decimal number ++ restOf find) ⌝ }
+{
+    if !has_room(out.len(), at) {
+        let held = by_text(number, find, out, at);
+        return Numbered { ten, at: held };
+    }
+    let begun = tens::put(ten, number, out, at);
+    let kept = begun.ten;
+    let held = rest(find, out, begun.at);
+    Numbered {
+        ten: kept,
+        at: held,
+    }
 }
 
 // Asks for the next find of a TP, and puts its line.
 pub fn step(
     r: Receiver,
+    ten: Ten,
     number: u64,
     tp: &[u8],
     room: &mut [u8],
@@ -120,14 +177,21 @@ pub fn step(
     at: usize,
 ) -> Listed
     requires { ⌜ Able r ⌝ }
+    requires { ⌜ Kept ten ⌝ }
     ensures { λ q. ⌜ Gives (callOf r (now (tp .entry)) (now (room .entry))) (q .step) (now (tp .entry)) (now (room .exit)) ⌝ }
     ensures { λ q. ⌜ record { bytes = now (out .exit); at = q .at } ≡ put (now (out .entry)) at (lineOf number (q .step .find)) ⌝ }
+    ensures { λ q. ⌜ Kept (q .ten) ⌝ }
 {
     let step = receiver::next(r, tp, room);
-    let find = step.find;
-    if let Find::Nothing = find {
-        return Listed { step, at };
+    let found = step.find;
+    if let Find::Nothing = found {
+        return Listed { step, ten, at };
     }
-    let held = line(number, find, out, at);
-    Listed { step, at: held }
+    let held = line_in(ten, number, found, out, at);
+    let kept = held.ten;
+    Listed {
+        step,
+        ten: kept,
+        at: held.at,
+    }
 }

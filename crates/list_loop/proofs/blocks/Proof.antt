@@ -43,10 +43,10 @@ same-length : tie.Need-same-length Inv-loop μ-loop
 same-length c = search needs
 
 same-length-2 : tie.Need-same-length-2 Inv-loop μ-loop
-same-length-2 c = search needs
+same-length-2 c = omega (arith, c .before .before .before .before .before .before .before .before .before .before .before .room .given, c .before .before .before .before .before .before .before .before .before .before .before .before .before .before .before .before .before .loop .inv .1 .1 .1 .0)
 
 same-length-3 : tie.Need-same-length-3 Inv-loop μ-loop
-same-length-3 c = search needs
+same-length-3 c = omega (arith, c .before .before .before .before .before .before .before .before .before .out .given, c .before .before .before .before .before .before .before .before .before .before .before .before .before .before .before .before .before .loop .inv .1 .1 .1 .1)
 
 returns : tie.Need-returns Inv-loop μ-loop
 returns c = search needs
@@ -59,24 +59,25 @@ loop-less c = search needs
 
 loop-again : tie.Need-loop-again Inv-loop μ-loop
 loop-again c =
-    let i = c .before .before .before .before .before .before .before .before .before .before .before .before .before .before .before .before .before .before .before .loop .inv in
+    let i = c .before .before .before .before .before .before .before .before .before .before .before .before .before .before .before .before .before .before .before .before .loop .inv in
     let r = i .0 .0 in
-    let t = c .before .before .before .before .before .before .before .before .before .before .before .before .before .before .turns .ensures in
+    let t = c .before .before .before .before .before .before .before .before .before .before .before .before .before .before .before .turns .ensures in
     let a = t .0 in
-    let m = goes-on _ _ _ _ _ (c .before .before .before .before .before .before .go-on .ensures) (c .before .before .next .given .1) in
-    let fewer = c .before .before .before .before .before .before .before .before .before .before .before .before .before .before .before .before .before .before .loop-test .taken in (
+    let m = goes-on _ _ _ _ _ (c .before .before .before .before .before .before .before .go-on .ensures) (c .before .before .before .next .given .1) in
+    let fewer = c .before .before .before .before .before .before .before .before .before .before .before .before .before .before .before .before .before .before .before .loop-test .taken in (
       (
         record {
           able = a .able;
-          room = omega (arith, r .room, c .before .before .before .before .before .before .before .before .before .before .before .out .given);
+          ten = a .ten;
+          room = omega (arith, r .room, c .before .before .before .before .before .before .before .before .before .before .before .before .out .given);
           from = m .from;
           end = m .end;
-          size = omega (arith, r .size, c .before .before .before .before .before .block .given);
+          size = omega (arith, r .size, c .before .before .before .before .before .before .block .given);
           count = omega (arith, a .count, a .end, r .end, r .size, i .1 .0, fewer);
         },
         round (i .0 .1) (t .1) (a .end) (r .end) m,
       ),
-      (omega (arith, a .count, a .end, r .end, r .size, i .1 .0, fewer), (omega (arith, c .before .before .before .before .before .block .given, i .1 .1 .0), (omega (arith, c .before .before .before .before .before .before .before .before .before .before .before .before .before .room .given, i .1 .1 .1 .0), omega (arith, c .before .before .before .before .before .before .before .before .before .before .before .out .given, i .1 .1 .1 .1)))),
+      (omega (arith, a .count, a .end, r .end, r .size, i .1 .0, fewer), (omega (arith, c .before .before .before .before .before .before .block .given, i .1 .1 .0), (omega (arith, c .before .before .before .before .before .before .before .before .before .before .before .before .before .before .room .given, i .1 .1 .1 .0), omega (arith, c .before .before .before .before .before .before .before .before .before .before .before .before .out .given, i .1 .1 .1 .1)))),
     )
 
 same-length-4 : tie.Need-same-length-4 Inv-loop μ-loop

@@ -1,5 +1,5 @@
 -- `list_loop::finds` is safe and ends: a find that goes on puts a line, so the block fills. The invariant: the receiver can be called,
--- no less is held than before, the buffers keep their lengths, and what is held are the lines of the calls so far.
+-- the ten is kept, no less is held than before, the buffers keep their lengths, and what is held are the lines of the calls so far.
 -- Assumes nothing.
 use Prim.Native.Nat.{_+_, _-_, _≤_}
 use mathlib.Core.Path.{_≡_, refl, sym, _∙_}
@@ -8,22 +8,23 @@ use borrow.Author.Needs.{needs}
 use borrow.Author.Tests.{not-true, not-false}
 use lib.ListN.{length}
 use Rattle.receiver.specs.State.{Able}
+use Rattle.listing.specs.Tens.{Kept}
 use Rattle.listing.proofs.Laws.{no-less, grows, line-held}
 use Rattle.list_loop.proofs.Lists.{Heard, heard-none, heard-then, found-done, found-on}
 use Rattle.list_loop.proofs.finds.Statement.{statement}
 use Rattle.list_loop.proofs.finds.Tie as tie
 
 abbrev Inv-loop : tie.InvT-loop
-Inv-loop first tp room₀ out₀ receiver₀ at₀ number room out receiver at = Able receiver × ((first .at ≤ at) × ((length room ≡ length room₀) × ((length out ≡ length out₀) × Heard tp first room₀ out₀ receiver at room out)))
+Inv-loop first tp room₀ out₀ receiver₀ ten₀ at₀ number room out receiver ten at = (Able receiver × Kept ten) × ((first .at ≤ at) × ((length room ≡ length room₀) × ((length out ≡ length out₀) × Heard tp first room₀ out₀ receiver at room out)))
 
 abbrev μ-loop : tie.MeasureT-loop
-μ-loop first tp room₀ out₀ receiver₀ at₀ number room out receiver at = 61440 - at
+μ-loop first tp room₀ out₀ receiver₀ ten₀ at₀ number room out receiver ten at = 61440 - at
 
 add-number : tie.Need-add-number Inv-loop μ-loop
-add-number c = omega (arith, c .before .before .before .before .before .pre .count)
+add-number c = omega (arith, c .before .before .before .before .before .before .pre .count)
 
 loop-holds : tie.Need-loop-holds Inv-loop μ-loop
-loop-holds c = (c .before .before .before .before .before .pre .able, (omega arith, (refl, (refl, heard-none _ _ _ _))))
+loop-holds c = let p = c .before .before .before .before .before .before .pre in ((p .able, p .ten), (omega arith, (refl, (refl, heard-none _ _ _ _))))
 
 step-requires : tie.Need-step-requires Inv-loop μ-loop
 step-requires c κs = c .before .before .before .loop .inv .0
@@ -31,27 +32,28 @@ step-requires c κs = c .before .before .before .loop .inv .0
 lasts-requires : tie.Need-lasts-requires Inv-loop μ-loop
 lasts-requires c κs = search needs
 
-add-t17 : tie.Need-add-t17 Inv-loop μ-loop
-add-t17 c = omega (arith, c .before .before .before .before .before .before .before .before .before .before .before .before .before .before .before .before .before .before .before .pre .end)
+add-t18 : tie.Need-add-t18 Inv-loop μ-loop
+add-t18 c = omega (arith, c .before .before .before .before .before .before .before .before .before .before .before .before .before .before .before .before .before .before .before .before .before .pre .end)
 
-add-t19 : tie.Need-add-t19 Inv-loop μ-loop
-add-t19 c = omega (arith, c .before .before .before .before .before .before .before .before .before .before .before .before .before .before .before .before .before .before .before .pre .end)
+add-t20 : tie.Need-add-t20 Inv-loop μ-loop
+add-t20 c = omega (arith, c .before .before .before .before .before .before .before .before .before .before .before .before .before .before .before .before .before .before .before .before .before .pre .end)
 
 same-length : tie.Need-same-length Inv-loop μ-loop
-same-length c = search needs
+same-length c = omega (arith, c .before .before .before .before .before .before .before .before .before .room .given, c .before .before .before .before .before .before .before .before .before .before .before .before .before .before .loop .inv .1 .1 .0)
 
 same-length-2 : tie.Need-same-length-2 Inv-loop μ-loop
-same-length-2 c = omega (arith, c .before .before .before .before .before .before .out .given, c .before .before .before .before .before .before .before .before .before .before .before .before .before .loop .inv .1 .1 .1 .0)
+same-length-2 c = omega (arith, c .before .before .before .before .before .before .before .out .given, c .before .before .before .before .before .before .before .before .before .before .before .before .before .before .loop .inv .1 .1 .1 .0)
 
 returns : tie.Need-returns Inv-loop μ-loop
 returns c =
-    let s = c .before .before .before .before .before .before .before .before .before .before .before .before .before .before .before .before .before .before .before in
-    let l = c .before .before .before .before .before .before .before .before .before .before .before .before .before .loop in
-    let q = c .before .before .before .before .before .before .before .before .before .step in
-    let more = no-less (s .args .first .done + 1) (q .result .step .find) (l .out) _ (l .at) (q .result .at) (omega (arith, s .pre .room, l .inv .1 .1 .1 .0, c .before .before .before .before .before .before .before .before .before .before .before .before .loop-test .taken)) (q .ensures .1) in
-    let line = line-held (s .args .first .done + 1) (q .result .step .find) (l .out) _ (l .at) (q .result .at) (omega (arith, s .pre .room, l .inv .1 .1 .1 .0, c .before .before .before .before .before .before .before .before .before .before .before .before .loop-test .taken)) (q .ensures .1) in (
+    let s = c .before .before .before .before .before .before .before .before .before .before .before .before .before .before .before .before .before .before .before .before .before in
+    let l = c .before .before .before .before .before .before .before .before .before .before .before .before .before .before .loop in
+    let q = c .before .before .before .before .before .before .before .before .before .before .step in
+    let more = no-less (s .args .first .done + 1) (q .result .step .find) (l .out) _ (l .at) (q .result .at) (omega (arith, s .pre .room, l .inv .1 .1 .1 .0, c .before .before .before .before .before .before .before .before .before .before .before .before .before .loop-test .taken)) (q .ensures .1 .0) in
+    let line = line-held (s .args .first .done + 1) (q .result .step .find) (l .out) _ (l .at) (q .result .at) (omega (arith, s .pre .room, l .inv .1 .1 .1 .0, c .before .before .before .before .before .before .before .before .before .before .before .before .before .loop-test .taken)) (q .ensures .1 .0) in (
       record {
         able = q .ensures .0 .able;
+        ten = q .ensures .1 .1;
         held = omega (arith, more, l .inv .1 .0);
         from = omega arith;
         end = omega arith;
@@ -63,21 +65,21 @@ returns c =
 
 loop-less : tie.Need-loop-less Inv-loop μ-loop
 loop-less c =
-    let s = c .before .before .before .before .before .before .before .before .before .before .before .before .before .before .before .before .before .before in
-    let l = c .before .before .before .before .before .before .before .before .before .before .before .before .loop in
-    let q = c .before .before .before .before .before .before .before .before .step in
-    let room : l .at + 80 ≤ length (l .out) = omega (arith, s .pre .room, l .inv .1 .1 .1 .0, c .before .before .before .before .before .before .before .before .before .before .before .loop-test .taken) in
-    omega (arith, c .before .before .before .before .before .before .before .before .before .before .before .loop-test .taken, grows (s .args .first .done + 1) (q .result .step .find) (l .out) _ (l .at) (q .result .at) room (q .ensures .1) (sym (c .before .lasts .ensures) ∙ not-false _ (c .if1 .left)))
+    let s = c .before .before .before .before .before .before .before .before .before .before .before .before .before .before .before .before .before .before .before .before in
+    let l = c .before .before .before .before .before .before .before .before .before .before .before .before .before .loop in
+    let q = c .before .before .before .before .before .before .before .before .before .step in
+    let room : l .at + 80 ≤ length (l .out) = omega (arith, s .pre .room, l .inv .1 .1 .1 .0, c .before .before .before .before .before .before .before .before .before .before .before .before .loop-test .taken) in
+    omega (arith, c .before .before .before .before .before .before .before .before .before .before .before .before .loop-test .taken, grows (s .args .first .done + 1) (q .result .step .find) (l .out) _ (l .at) (q .result .at) room (q .ensures .1 .0) (sym (c .before .lasts .ensures) ∙ not-false _ (c .if1 .left)))
 
 loop-again : tie.Need-loop-again Inv-loop μ-loop
 loop-again c =
-    let s = c .before .before .before .before .before .before .before .before .before .before .before .before .before .before .before .before .before .before in
-    let l = c .before .before .before .before .before .before .before .before .before .before .before .before .loop in
-    let q = c .before .before .before .before .before .before .before .before .step in
-    let more = no-less (s .args .first .done + 1) (q .result .step .find) (l .out) _ (l .at) (q .result .at) (omega (arith, s .pre .room, l .inv .1 .1 .1 .0, c .before .before .before .before .before .before .before .before .before .before .before .loop-test .taken)) (q .ensures .1) in
-    let line = line-held (s .args .first .done + 1) (q .result .step .find) (l .out) _ (l .at) (q .result .at) (omega (arith, s .pre .room, l .inv .1 .1 .1 .0, c .before .before .before .before .before .before .before .before .before .before .before .loop-test .taken)) (q .ensures .1) in
+    let s = c .before .before .before .before .before .before .before .before .before .before .before .before .before .before .before .before .before .before .before .before in
+    let l = c .before .before .before .before .before .before .before .before .before .before .before .before .before .loop in
+    let q = c .before .before .before .before .before .before .before .before .before .step in
+    let more = no-less (s .args .first .done + 1) (q .result .step .find) (l .out) _ (l .at) (q .result .at) (omega (arith, s .pre .room, l .inv .1 .1 .1 .0, c .before .before .before .before .before .before .before .before .before .before .before .before .loop-test .taken)) (q .ensures .1 .0) in
+    let line = line-held (s .args .first .done + 1) (q .result .step .find) (l .out) _ (l .at) (q .result .at) (omega (arith, s .pre .room, l .inv .1 .1 .1 .0, c .before .before .before .before .before .before .before .before .before .before .before .before .loop-test .taken)) (q .ensures .1 .0) in
     let on = sym (c .before .lasts .ensures) ∙ not-false _ (c .if1 .left) in
-    (q .ensures .0 .able, (omega (arith, more, l .inv .1 .0), (omega (arith, c .before .before .before .before .before .before .before .room .given, l .inv .1 .1 .0), (omega (arith, c .before .before .before .before .before .out .given, l .inv .1 .1 .1 .0), heard-then _ _ _ _ _ _ _ _ (l .inv .1 .1 .1 .1) _ _ _ _ (q .ensures .0) line on))))
+    ((q .ensures .0 .able, q .ensures .1 .1), (omega (arith, more, l .inv .1 .0), (omega (arith, c .before .before .before .before .before .before .before .before .room .given, l .inv .1 .1 .0), (omega (arith, c .before .before .before .before .before .before .out .given, l .inv .1 .1 .1 .0), heard-then _ _ _ _ _ _ _ _ (l .inv .1 .1 .1 .1) _ _ _ _ (q .ensures .0) line on))))
 
 same-length-3 : tie.Need-same-length-3 Inv-loop μ-loop
 same-length-3 c = search needs
@@ -87,10 +89,11 @@ same-length-4 c = search needs
 
 returns-2 : tie.Need-returns-2 Inv-loop μ-loop
 returns-2 c =
-    let s = c .before .before .before .before .before .before .before in
+    let s = c .before .before .before .before .before .before .before .before in
     let l = c .before .loop in (
       record {
-        able = l .inv .0;
+        able = l .inv .0 .0;
+        ten = l .inv .0 .1;
         held = l .inv .1 .0;
         from = omega arith;
         end = omega arith;
@@ -110,8 +113,8 @@ finds-spec =
     loop-holds
     step-requires
     lasts-requires
-    add-t17
-    add-t19
+    add-t18
+    add-t20
     same-length
     same-length-2
     returns

@@ -36,6 +36,9 @@ slice-aggregate-header c = search needs
 header-requires : tie.Need-header-requires
 header-requires c κs = search needs
 
+first-ten-requires : tie.Need-first-ten-requires
+first-ten-requires c κs = search needs
+
 slice-aggregate-blocks : tie.Need-slice-aggregate-blocks
 slice-aggregate-blocks c = search needs
 
@@ -44,18 +47,19 @@ slice-aggregate-blocks-2 c = search needs
 
 blocks-requires : tie.Need-blocks-requires
 blocks-requires c κs =
-    let p = c .before .before .before .before .before .before .before .before .before .before .before .before .pre in
-    let opened = c .before .before .before .before .before .before .before .before .before .«open» .ensures in
-    let is = c .before .before .before .before .before .before .before .receiver .given .1 in (
+    let p = c .before .before .before .before .before .before .before .before .before .before .before .before .before .pre in
+    let opened = c .before .before .before .before .before .before .before .before .before .before .«open» .ensures in
+    let is = c .before .before .before .before .before .before .before .before .receiver .given .1 in (
       record {
         able = subst AbleIf is (opened .able);
+        ten = c .before .before .before .first-ten .ensures;
         room = omega arith;
         from = p .1 .0;
         end = p .1 .1;
         size = p .0;
         count = omega arith;
       },
-      begins _ _ _ _ _ _ opened is refl (header-held _ _ _ (omega arith) (c .before .before .before .before .header .ensures)),
+      begins _ _ _ _ _ _ opened is refl (header-held _ _ _ (omega arith) (c .before .before .before .before .before .header .ensures)),
     )
 
 same-length : tie.Need-same-length
@@ -77,6 +81,7 @@ list-spec =
     returns
     slice-aggregate-header
     header-requires
+    first-ten-requires
     slice-aggregate-blocks
     slice-aggregate-blocks-2
     blocks-requires

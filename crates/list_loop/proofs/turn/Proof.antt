@@ -28,17 +28,18 @@ returns c =
 gap-requires : tie.Need-gap-requires
 gap-requires c κs = search needs
 
-add-t12 : tie.Need-add-t12
-add-t12 c = search needs
+add-t13 : tie.Need-add-t13
+add-t13 c = search needs
 
 returns-2 : tie.Need-returns-2
 returns-2 c =
-    let s = c .before .before .before .before .before .before .before in
+    let s = c .before .before .before .before .before .before .before .before in
     let a = s .args in
     let g = c .before .gap .ensures in
-    let k = c .before .before .before .match .keys2 in (
+    let k = c .before .before .before .before .match .keys2 in (
       record {
         able = g .1;
+        ten = s .pre .ten;
         held = omega arith;
         from = omega arith;
         end = omega arith;
@@ -60,5 +61,5 @@ turn-spec =
     same-length-2
     returns
     gap-requires
-    add-t12
+    add-t13
     returns-2)

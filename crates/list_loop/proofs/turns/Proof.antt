@@ -20,7 +20,7 @@ abbrev μ-loop : tie.MeasureT-loop
 loop-holds : tie.Need-loop-holds Inv-loop μ-loop
 loop-holds c =
     let p = c .before .before .before .pre in
-    (record { able = p .able; from = omega arith; end = p .from; count = omega arith }, (refl, (refl, listed-none _ _ _ _ _)))
+    (record { able = p .able; ten = p .ten; from = omega arith; end = p .from; count = omega arith }, (refl, (refl, listed-none _ _ _ _ _)))
 
 sub-unread : tie.Need-sub-unread Inv-loop μ-loop
 sub-unread c = search needs
@@ -57,6 +57,7 @@ turn-requires c κs =
     let i = l .inv .0 in
     record {
       able = i .able;
+      ten = i .ten;
       room = omega (arith, p .room, l .inv .1 .1 .0);
       held = c .before .before .before .before .before .before .before .before .if1 .taken;
       count = omega (arith, p .count, p .end, p .size, i .count, i .end);
@@ -78,7 +79,7 @@ loop-again c =
     let i = l .inv .0 in
     let o = c .before .before .before .before .turn .ensures .0 in
     let w = data-within _ (s .args .block .now) _ (l .run .from) (s .args .till) _ (i .end) (sym (c .before .before .before .before .before .before .before .before .before .before .before .read-record .ensures) ∙ c .before .before .before .before .before .before .before .before .before .said .given .1) (c .before .before .before .before .before .before .before .data-of .ensures) in
-    (record { able = o .able; from = omega (arith, i .from, o .from); end = omega (arith, w, o .end); count = omega (arith, i .count, o .count) }, (omega (arith, c .before .before .before .room .given, l .inv .1 .0), (omega (arith, c .before .out .given, l .inv .1 .1 .0), listed-then _ _ _ _ _ _ _ _ (l .inv .1 .1 .1) _ _ _ _ _ (sym (c .before .before .before .before .before .before .before .before .before .before .before .read-record .ensures) ∙ c .before .before .before .before .before .before .before .before .before .said .given .1) (c .before .before .before .before .before .before .before .data-of .ensures) (c .before .before .before .before .turn .ensures .1))))
+    (record { able = o .able; ten = o .ten; from = omega (arith, i .from, o .from); end = omega (arith, w, o .end); count = omega (arith, i .count, o .count) }, (omega (arith, c .before .before .before .room .given, l .inv .1 .0), (omega (arith, c .before .out .given, l .inv .1 .1 .0), listed-then _ _ _ _ _ _ _ _ (l .inv .1 .1 .1) _ _ _ _ _ (sym (c .before .before .before .before .before .before .before .before .before .before .before .read-record .ensures) ∙ c .before .before .before .before .before .before .before .before .before .said .given .1) (c .before .before .before .before .before .before .before .data-of .ensures) (c .before .before .before .before .turn .ensures .1))))
 
 same-length-3 : tie.Need-same-length-3 Inv-loop μ-loop
 same-length-3 c = search needs

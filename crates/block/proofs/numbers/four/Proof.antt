@@ -1,22 +1,22 @@
--- `numbers::four` meets its contract: one digit behind the others.
+-- `numbers::four` meets its contract: two digits behind the others.
 -- Assumes nothing.
 use Prim.Native.Nat.{_+_}
 use mathlib.Core.Path.{ap, _∙_}
 use Rattle.block.specs.Block.{placed}
 use Rattle.block.specs.Decimal.{padded}
-use Rattle.block.proofs.Straight.{one-more}
+use Rattle.block.proofs.Straight.{two-more}
 use borrow.Author.Needs.{needs}
 use Rattle.block.proofs.numbers.four.Statement.{statement}
 use Rattle.block.proofs.numbers.four.Tie as tie
 
-three-requires : tie.Need-three-requires
-three-requires c κs = search needs
+two-requires : tie.Need-two-requires
+two-requires c κs = search needs
 
-add-one : tie.Need-add-one
-add-one c = search needs
+add-two : tie.Need-add-two
+add-two c = search needs
 
-one-requires : tie.Need-one-requires
-one-requires c κs = search needs
+two-requires-2 : tie.Need-two-requires-2
+two-requires-2 c κs = search needs
 
 same-length : tie.Need-same-length
 same-length c = search needs
@@ -25,7 +25,7 @@ returns : tie.Need-returns
 returns c =
     let s = c .before .before .before .before .before .before .before .before .before in
     let a = s .args in
-    c .before .before .one .ensures ∙ ap (λ x. placed x (a .at + 3) (padded 1 (a .n))) (c .before .before .before .before .before .before .three .ensures) ∙ one-more (a .out .now) (a .at) 3 (a .n) (s .pre)
+    c .before .before .two2 .ensures ∙ ap (λ x. placed x (a .at + 2) (padded 2 (a .n))) (c .before .before .before .before .before .before .two .ensures) ∙ two-more (a .out .now) (a .at) 2 (a .n) (s .pre)
 
 pub four-spec : {M : Type 1} → statement M
-four-spec = tie.close (tie.spec three-requires add-one one-requires same-length returns)
+four-spec = tie.close (tie.spec two-requires add-two two-requires-2 same-length returns)

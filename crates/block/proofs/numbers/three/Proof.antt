@@ -1,22 +1,22 @@
--- `numbers::three` meets its contract: one digit behind the others.
+-- `numbers::three` meets its contract: two digits behind the others.
 -- Assumes nothing.
 use Prim.Native.Nat.{_+_}
 use mathlib.Core.Path.{ap, _∙_}
 use Rattle.block.specs.Block.{placed}
 use Rattle.block.specs.Decimal.{padded}
-use Rattle.block.proofs.Straight.{one-more}
+use Rattle.block.proofs.Straight.{two-more}
 use borrow.Author.Needs.{needs}
 use Rattle.block.proofs.numbers.three.Statement.{statement}
 use Rattle.block.proofs.numbers.three.Tie as tie
 
-two-requires : tie.Need-two-requires
-two-requires c κs = search needs
-
-add-one : tie.Need-add-one
-add-one c = search needs
-
 one-requires : tie.Need-one-requires
 one-requires c κs = search needs
+
+add-two : tie.Need-add-two
+add-two c = search needs
+
+two-requires : tie.Need-two-requires
+two-requires c κs = search needs
 
 same-length : tie.Need-same-length
 same-length c = search needs
@@ -25,7 +25,7 @@ returns : tie.Need-returns
 returns c =
     let s = c .before .before .before .before .before .before .before .before .before in
     let a = s .args in
-    c .before .before .one .ensures ∙ ap (λ x. placed x (a .at + 2) (padded 1 (a .n))) (c .before .before .before .before .before .before .two .ensures) ∙ one-more (a .out .now) (a .at) 2 (a .n) (s .pre)
+    c .before .before .two .ensures ∙ ap (λ x. placed x (a .at + 1) (padded 2 (a .n))) (c .before .before .before .before .before .before .one .ensures) ∙ two-more (a .out .now) (a .at) 1 (a .n) (s .pre)
 
 pub three-spec : {M : Type 1} → statement M
-three-spec = tie.close (tie.spec two-requires add-one one-requires same-length returns)
+three-spec = tie.close (tie.spec one-requires add-two two-requires same-length returns)

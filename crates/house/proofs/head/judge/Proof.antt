@@ -1,23 +1,30 @@
--- `house::head::judge` meets its contract: the two bytes of the mark decide, and the rest is `rule`'s.
+-- `house::head::judge` meets its contract: four bytes at once are a TP's, or each byte is judged.
 -- Assumes nothing.
+use mathlib.Core.Path.{ap, sym, _∙_}
 use native.Mathlib.Omega.{arith}
 use Rattle.house.specs.Records.{judgedOf}
-use Rattle.house.proofs.Slicing.{other-first, other-second}
+use Rattle.house.proofs.Slicing.{tp-head}
 use borrow.Author.Needs.{needs}
 use Rattle.house.proofs.head.judge.Statement.{statement}
 use Rattle.house.proofs.head.judge.Tie as tie
 
-shared-slice-read-if1 : tie.Need-shared-slice-read-if1
-shared-slice-read-if1 c = search needs
+enum-told : tie.Need-enum-told
+enum-told c = search needs
+
+judge-bytes-requires : tie.Need-judge-bytes-requires
+judge-bytes-requires c κs = search needs
 
 returns : tie.Need-returns
-returns c = let a = c .before .before .before .args in other-first (a .place) (a .s .now) (omega (arith, c .before .shared-slice-known2 .given 1)) (c .if1 .taken)
+returns c = search needs
 
-shared-slice-read-if2 : tie.Need-shared-slice-read-if2
-shared-slice-read-if2 c = search needs
+start-of-requires : tie.Need-start-of-requires
+start-of-requires c κs = search needs
+
+judge-bytes-requires-2 : tie.Need-judge-bytes-requires-2
+judge-bytes-requires-2 c κs = search needs
 
 returns-2 : tie.Need-returns-2
-returns-2 c = let a = c .before .before .before .before .before .args in other-second (a .place) (a .s .now) (omega (arith, c .before .shared-slice-known3 .given 1)) (c .if2 .taken)
+returns-2 c = search needs
 
 shared-slice-read-from-four : tie.Need-shared-slice-read-from-four
 shared-slice-read-from-four c = search needs
@@ -34,33 +41,32 @@ shared-slice-read-from-four-4 c = search needs
 from-four-requires : tie.Need-from-four-requires
 from-four-requires c κs = search needs
 
-shared-slice-read-rule : tie.Need-shared-slice-read-rule
-shared-slice-read-rule c = search needs
-
-shared-slice-read-rule-2 : tie.Need-shared-slice-read-rule-2
-shared-slice-read-rule-2 c = search needs
-
-rule-requires : tie.Need-rule-requires
-rule-requires c κs = search needs
+judge-bytes-requires-3 : tie.Need-judge-bytes-requires-3
+judge-bytes-requires-3 c κs = search needs
 
 returns-3 : tie.Need-returns-3
-unfolding judgedOf
-returns-3 c = rw (c .before .before .before .before .before .before .before .before .before .before .if1 .left, c .before .before .before .before .before .before .before .before .if2 .left, ← c .before .before .before .from-four .ensures, c .rule .ensures)
+returns-3 c = search needs
+
+returns-4 : tie.Need-returns-4
+returns-4 c =
+    let a = c .before .before .before .before .before .before .before .before .before .before .before .args in
+    tp-head (a .s .now) (λ i. omega (arith, c .before .before .shared-slice-known5 .given i)) _ (sym (c .before .before .before .before .before .before .before .start-of .ensures) ∙ c .before .before .before .before .before .before .if1 .left) (c .before .from-four .ensures) (c .if2 .left) ∙ ap (λ p. judgedOf p (a .s .now)) (sym (c .before .before .before .before .before .before .before .before .enum-told .given .1))
 
 pub judge-spec : {M : Type 1} → statement M
 judge-spec =
     tie.close
     (tie.spec
-    shared-slice-read-if1
+    enum-told
+    judge-bytes-requires
     returns
-    shared-slice-read-if2
+    start-of-requires
+    judge-bytes-requires-2
     returns-2
     shared-slice-read-from-four
     shared-slice-read-from-four-2
     shared-slice-read-from-four-3
     shared-slice-read-from-four-4
     from-four-requires
-    shared-slice-read-rule
-    shared-slice-read-rule-2
-    rule-requires
-    returns-3)
+    judge-bytes-requires-3
+    returns-3
+    returns-4)

@@ -1,12 +1,12 @@
--- `listing::spell` meets its contract: the find's case picks the line.
+-- `listing::rest` meets its contract: the find's case picks the word and its numbers.
 -- Assumes nothing.
 use mathlib.Core.Path.{ap, sym, _∙_}
 use Rattle.block.specs.Block.{put}
-use Rattle.listing.specs.Lines.{lineOf}
 use Rattle.block.proofs.Laws.{nothing}
+use Rattle.listing.specs.Lines.{restOf}
 use borrow.Author.Needs.{needs}
-use Rattle.listing.proofs.spell.Statement.{statement}
-use Rattle.listing.proofs.spell.Tie as tie
+use Rattle.listing.proofs.rest.Statement.{statement}
+use Rattle.listing.proofs.rest.Tie as tie
 
 enum-told : tie.Need-enum-told
 enum-told c = search needs
@@ -47,7 +47,7 @@ ordinary-requires c κs = search needs
 returns : tie.Need-returns
 returns c =
     let a = c .before .before .before .args in
-    nothing (a .out .now) (a .at) ∙ ap (λ f. put (a .out .now) (a .at) (lineOf (a .number) f)) (sym (c .enum-told .given .1))
+    nothing (a .out .now) (a .at) ∙ ap (λ f. put (a .out .now) (a .at) (restOf f)) (sym (c .enum-told .given .1))
 
 same-length : tie.Need-same-length
 same-length c = search needs
@@ -55,7 +55,7 @@ same-length c = search needs
 returns-2 : tie.Need-returns-2
 returns-2 c =
     let a = c .before .before .before .before .before .before .before .args in
-    c .before .before .notice .ensures ∙ ap (λ f. put (a .out .now) (a .at) (lineOf (a .number) f)) (sym (c .before .before .before .before .enum-told2 .given .1))
+    c .before .before .notice .ensures ∙ ap (λ f. put (a .out .now) (a .at) (restOf f)) (sym (c .before .before .before .before .enum-told2 .given .1))
 
 same-length-2 : tie.Need-same-length-2
 same-length-2 c = search needs
@@ -63,7 +63,7 @@ same-length-2 c = search needs
 returns-3 : tie.Need-returns-3
 returns-3 c =
     let a = c .before .before .before .before .before .before .before .before .args in
-    c .before .before .notice2 .ensures ∙ ap (λ f. put (a .out .now) (a .at) (lineOf (a .number) f)) (sym (c .before .before .before .before .before .find .given .1))
+    c .before .before .notice2 .ensures ∙ ap (λ f. put (a .out .now) (a .at) (restOf f)) (sym (c .before .before .before .before .before .find .given .1))
 
 same-length-3 : tie.Need-same-length-3
 same-length-3 c = search needs
@@ -71,7 +71,7 @@ same-length-3 c = search needs
 returns-4 : tie.Need-returns-4
 returns-4 c =
     let a = c .before .before .before .before .before .before .before .before .args in
-    c .before .before .low .ensures ∙ ap (λ f. put (a .out .now) (a .at) (lineOf (a .number) f)) (sym (c .before .before .before .before .before .find2 .given .1))
+    c .before .before .low .ensures ∙ ap (λ f. put (a .out .now) (a .at) (restOf f)) (sym (c .before .before .before .before .before .find2 .given .1))
 
 same-length-4 : tie.Need-same-length-4
 same-length-4 c = search needs
@@ -79,10 +79,10 @@ same-length-4 c = search needs
 returns-5 : tie.Need-returns-5
 returns-5 c =
     let a = c .before .before .before .before .before .before .before .before .args in
-    c .before .before .ordinary .ensures ∙ ap (λ f. put (a .out .now) (a .at) (lineOf (a .number) f)) (sym (c .before .before .before .before .before .find3 .given .1))
+    c .before .before .ordinary .ensures ∙ ap (λ f. put (a .out .now) (a .at) (restOf f)) (sym (c .before .before .before .before .before .find3 .given .1))
 
-pub spell-spec : {M : Type 1} → statement M
-spell-spec =
+pub rest-spec : {M : Type 1} → statement M
+rest-spec =
     tie.close
     (tie.spec
     enum-told
