@@ -5,6 +5,7 @@ pub mod Puts
 pub mod Pieces
 pub mod PutPieces
 pub mod Offers
+pub mod Firsts
 pub mod Heads
 pub mod Lows
 pub mod RestAfter

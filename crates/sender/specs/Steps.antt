@@ -1,10 +1,11 @@
 -- What the private steps of an offer and of a draw ensure of each other. Assumes nothing.
 use mathlib.Core.Path.{_≡_}
-use mathlib.Core.Bool.{Bool, true, false, not}
+use mathlib.Core.Bool.{Bool, true, false, cond, not}
 use mathlib.Core.List.{List, _++_, flatten}
-use Prim.Native.Nat.{ℕ, suc, _+_, _-_, _≤_, min}
+use Prim.Native.Nat.{ℕ, suc, _+_, _-_, _*_, _≤_, min}
 use lib.Dec.{ltb}
 use lib.ListN.{length, take}
+use Rattle.golay.specs.Golay.{codeWord}
 use Rattle.queue.specs.declared.Ring.{Ring}
 use Rattle.queue.specs.Ring.{Left, held, longer, written, off}
 use Rattle.sender.specs.declared.Refusal.{Refusal}
@@ -42,6 +43,10 @@ withLow s q = record { setting = s .setting; low = q; ordinary = s .ordinary; ow
 -- e put behind what q holds in b
 abbrev pub Put : List ℕ → Ring → List ℕ → Left
 Put b q e = record { ring = longer q (length e); bytes = written b q e }
+
+-- the first word of a complete EP's header whose length is below 4,096: it says the content alone; of an unknown content none
+unfoldable pub firstWord : ℕ → ℕ
+firstWord c = cond (known c) (codeWord (c * 64)) 0xFFFFFFFF
 
 -- ---- a draw
 

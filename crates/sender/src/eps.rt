@@ -1,10 +1,11 @@
 // An SP's EPs, put into a queue.
 ghost use mathlib.Core.Path.{_≡_};
+ghost use mathlib.Core.Bool.{true};
 ghost use mathlib.Core.List.{_++_, flatten};
 ghost use Prim.Native.Nat.{_+_, _≤_, _<_};
 ghost use lib.ListN.{length, drop};
 ghost use Rattle.queue.specs.Ring.{Kept};
-ghost use Rattle.sender.specs.Offering.{later, spBytes};
+ghost use Rattle.sender.specs.Offering.{known, later, spBytes};
 ghost use Rattle.sender.specs.Steps.{Put};
 use queue::Ring;
 
@@ -51,12 +52,12 @@ fn put_later(buf: &mut [u8], q: Ring, content: u8, sp: &[u8], piece: usize) -> R
 // Puts an SP's EPs behind what the ring holds.
 pub fn put_sp(buf: &mut [u8], q: Ring, content: u8, sp: &[u8], piece: usize) -> Ring
     requires { ⌜ Kept (now buf) q ⌝ }
-    requires { ⌜ (1 ≤ piece) × (piece ≤ 65535) ⌝ }
+    requires { ⌜ (1 ≤ piece) × ((piece ≤ 65535) × (known content ≡ true)) ⌝ }
     requires { ⌜ q .len + length (spBytes piece content (now sp)) ≤ length (now buf) ⌝ }
     ensures { λ r. ⌜ record { ring = r; bytes = now (buf .exit) } ≡ Put (now (buf .entry)) q (spBytes piece content (now (sp .entry))) ⌝ }
 {
     if sp.len() <= piece {
-        let complete = wire::header_of(content, 0, sp.len() as u16);
+        let complete = crate::complete::header(content, sp.len());
         return put_ep(buf, q, complete, sp);
     }
     let first = wire::header_of(content, 1, piece as u16);

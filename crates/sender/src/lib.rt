@@ -9,6 +9,7 @@ ghost use Rattle.sender.specs.Drawing.{took, drawBy, drew};
 ghost use Rattle.sender.specs.Steps.{withOrdinary, withLow};
 
 mod checks;
+mod complete;
 mod eps;
 mod ordinary;
 mod part;
@@ -152,7 +153,7 @@ pub fn offer_low(s: Sender, low: &mut [u8], ordinary: &[u8], content: u8, sp: &[
     if let Check::No(k) = checks::judged(content, sp, g.payload - 7, 65535, g.lowspace - q.len) {
         return Answer::Refused(k);
     }
-    let h = wire::header_of(content, 0, sp.len() as u16);
+    let h = complete::short_header(content, sp.len());
     let t = eps::put_ep(low, q, h, sp);
     Answer::Done(with_low(s, t))
 }

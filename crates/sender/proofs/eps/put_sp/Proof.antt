@@ -9,11 +9,8 @@ use borrow.Author.Needs.{needs}
 use Rattle.sender.proofs.eps.put_sp.Statement.{statement}
 use Rattle.sender.proofs.eps.put_sp.Tie as tie
 
-cast-header-of : tie.Need-cast-header-of
-cast-header-of c = search needs
-
-header-of-requires : tie.Need-header-of-requires
-header-of-requires c κs = search needs
+header-requires : tie.Need-header-requires
+header-requires c κs = search needs
 
 put-ep-requires : tie.Need-put-ep-requires
 put-ep-requires c κs =
@@ -28,13 +25,13 @@ returns : tie.Need-returns
 returns c =
     let s = c .before .before .before .before .before .before .before .before in
     let a = s .args in
-    put-as (a .buf .now) (a .q) (a .content) 0 (length (a .sp .now)) _ _ _ (c .before .before .before .before .header-of .ensures) refl (c .before .before .put-ep .ensures) ∙ ap (Put (a .buf .now) (a .q)) (sym (one-piece (a .piece) (a .content) (a .sp .now) (c .before .before .before .before .before .if1 .taken)))
+    put-as (a .buf .now) (a .q) (a .content) 0 (length (a .sp .now)) _ _ _ (c .before .before .before .before .header .ensures) refl (c .before .before .put-ep .ensures) ∙ ap (Put (a .buf .now) (a .q)) (sym (one-piece (a .piece) (a .content) (a .sp .now) (c .before .before .before .before .before .if1 .taken)))
 
-cast-header-of-2 : tie.Need-cast-header-of-2
-cast-header-of-2 c = search needs
+cast-header-of : tie.Need-cast-header-of
+cast-header-of c = search needs
 
-header-of-requires-2 : tie.Need-header-of-requires-2
-header-of-requires-2 c κs = search needs
+header-of-requires : tie.Need-header-of-requires
+header-of-requires c κs = search needs
 
 sub-put-ep : tie.Need-sub-put-ep
 sub-put-ep c = search needs
@@ -56,8 +53,8 @@ put-later-requires c κs =
     let s = c .before .before .before .before .before .before .before .before .before .before in
     let a = s .args in
     let h = c .before .before .before .before .before .before .before .if1 .left in
-    let u = put-as (a .buf .now) (a .q) (a .content) 1 (a .piece) _ _ _ (c .before .before .before .before .before .before .header-of2 .ensures) (first-length (a .buf .now) (a .q) (a .content) (a .sp .now) (a .piece) (s .pre .0) (s .pre .1 .1) h) (c .before .before .before .put-ep2 .ensures) in
-    (kept-first (a .buf .now) (a .q) (a .content) (a .sp .now) (a .piece) (s .pre .0) (s .pre .1 .1) h _ _ u, ((s .pre .1 .0 .0, s .pre .1 .0 .1, h), room-later (a .buf .now) (a .q) (a .content) (a .sp .now) (a .piece) (s .pre .0) (s .pre .1 .1) h _ _ u))
+    let u = put-as (a .buf .now) (a .q) (a .content) 1 (a .piece) _ _ _ (c .before .before .before .before .before .before .header-of .ensures) (first-length (a .buf .now) (a .q) (a .content) (a .sp .now) (a .piece) (s .pre .0) (s .pre .1 .1) h) (c .before .before .before .put-ep2 .ensures) in
+    (kept-first (a .buf .now) (a .q) (a .content) (a .sp .now) (a .piece) (s .pre .0) (s .pre .1 .1) h _ _ u, ((s .pre .1 .0 .0, s .pre .1 .0 .1 .0, h), room-later (a .buf .now) (a .q) (a .content) (a .sp .now) (a .piece) (s .pre .0) (s .pre .1 .1) h _ _ u))
 
 same-length-2 : tie.Need-same-length-2
 same-length-2 c = search needs
@@ -67,20 +64,19 @@ returns-2 c =
     let s = c .before .before .before .before .before .before .before .before .before .before .before .before .before in
     let a = s .args in
     let h = c .before .before .before .before .before .before .before .before .before .before .if1 .left in
-    let u = put-as (a .buf .now) (a .q) (a .content) 1 (a .piece) _ _ _ (c .before .before .before .before .before .before .before .before .before .header-of2 .ensures) (first-length (a .buf .now) (a .q) (a .content) (a .sp .now) (a .piece) (s .pre .0) (s .pre .1 .1) h) (c .before .before .before .before .before .before .put-ep2 .ensures) in
+    let u = put-as (a .buf .now) (a .q) (a .content) 1 (a .piece) _ _ _ (c .before .before .before .before .before .before .before .before .before .header-of .ensures) (first-length (a .buf .now) (a .q) (a .content) (a .sp .now) (a .piece) (s .pre .0) (s .pre .1 .1) h) (c .before .before .before .before .before .before .put-ep2 .ensures) in
     put-more (a .buf .now) (a .q) (a .content) (a .sp .now) (a .piece) (s .pre .0) (s .pre .1 .1) h _ _ u _ _ (c .before .before .put-later .ensures)
 
 pub put-sp-spec : {M : Type 1} → statement M
 put-sp-spec =
     tie.close
     (tie.spec
-    cast-header-of
-    header-of-requires
+    header-requires
     put-ep-requires
     same-length
     returns
-    cast-header-of-2
-    header-of-requires-2
+    cast-header-of
+    header-of-requires
     sub-put-ep
     part-put-ep-start
     part-put-ep-end
