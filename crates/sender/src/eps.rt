@@ -18,15 +18,12 @@ pub fn put_ep(buf: &mut [u8], q: Ring, h: [u8; 6], body: &[u8]) -> Ring
     queue::push(buf, q, h, body)
 }
 
-// The bytes that the EPs of an SP take.
-pub fn needed(content: u8, sp: &[u8], piece: usize) -> usize
-    requires { ⌜ (1 ≤ piece) × (length (now sp) ≤ 1048576) ⌝ }
+// The bytes that the EPs of an SP in several pieces take.
+pub fn in_pieces(content: u8, sp: &[u8], piece: usize) -> usize
+    requires { ⌜ (1 ≤ piece) × ((piece < length (now sp)) × (length (now sp) ≤ 1048576)) ⌝ }
     ensures { λ r. ⌜ r ≡ length (spBytes piece content (now (sp .entry))) ⌝ }
 {
     let n = sp.len();
-    if n <= piece {
-        return 6 + n;
-    }
     n + 6 * ((n - 1) / piece + 1)
 }
 
