@@ -7,6 +7,7 @@ pub mod PutPieces
 pub mod Offers
 pub mod Firsts
 pub mod Heads
+pub mod Accepted
 pub mod Lows
 pub mod RestAfter
 pub mod Stream

@@ -28,7 +28,7 @@ size-in-requires : tie.Need-size-in-requires
 size-in-requires c κs = search needs
 
 returns : tie.Need-returns
-returns c = (c .size-in .ensures .0 ∙ ap sizeIn (c .before .head-across .ensures), c .size-in .ensures .1)
+returns c = (c .size-in .ensures .0 ∙ ap sizeIn (c .before .head-across .ensures .0), c .size-in .ensures .1)
 
 add-result : tie.Need-add-result
 add-result c = search needs
