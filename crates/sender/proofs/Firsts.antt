@@ -1,7 +1,7 @@
 -- Laws of the first word of a complete EP's header. Assumes nothing.
 use mathlib.Core.Path.{_≡_, refl, sym, ap, _∙_}
 use mathlib.Core.Bool.{Bool, true, false, _&&_}
-use mathlib.Core.List.{_++_}
+use mathlib.Core.List.{List, _++_}
 use Prim.Native.Nat.{ℕ, _+_, _*_, _/_, _%_, _≤_, _<_}
 use native.Mathlib.Omega.{arith}
 use lib.Dec.{leb}
@@ -33,10 +33,16 @@ pub is-first : (c : ℕ) → known c ≡ true → firstWord c ≡ codeWord (c * 
 unfolding firstWord
 is-first c k = rw k
 
-pub short-is : (c n : ℕ) → known c ≡ true → n < 4096 → digits 3 (firstWord c) ++ digits 3 (codeWord n) ≡ header c 0 n
+pub bytes-entry : (c k : ℕ) (l : List ℕ) → c ≡ k → l ≡ word (k * 64) → l ≡ word (c * 64)
+bytes-entry c k l here e = e ∙ ap (λ (z : ℕ). word (z * 64)) (sym here)
+
+pub none-else : (c : ℕ) → known c ≡ true → (c ≡ 1 → ⊥) → (c ≡ 2 → ⊥) → (c ≡ 3 → ⊥) → (c ≡ 4 → ⊥) → (c ≡ 5 → ⊥) → (c ≡ 6 → ⊥) → ⊥
+none-else c k n₁ n₂ n₃ n₄ n₅ n₆ = let m = known-is c k in absurd (omega arith)
+
+pub short-is : (c n : ℕ) → known c ≡ true → n < 4096 → word (c * 64) ++ digits 3 (codeWord n) ≡ header c 0 n
 unfolding header word firstNumber
 short-is c n k h =
     let m = known-is c k .1 in
     let f : c % 16 * 64 + 0 % 4 * 16 + n / 4096 % 16 ≡ c * 64 = omega arith in
     let g : n % 4096 ≡ n = omega arith in
-    rw (is-first c k, f, g) refl
+    rw (f, g) refl

@@ -53,7 +53,7 @@ high-nibble a b h = omega arith
 high-bytes : (x d e : ℕ) → d < 256 → e < 256 → ((x * 256 + d) * 256 + e) / 16 % 4096 ≡ d * 16 + e / 16
 high-bytes x d e hd he = omega arith
 
-pub size-bytes : (a b c d e f : ℕ) → b < 256 → c < 256 → d < 256 → e < 256 → f < 256
+size-bytes : (a b c d e f : ℕ) → b < 256 → c < 256 → d < 256 → e < 256 → f < 256
     → b / 16 * 4096 + d * 16 + e / 16 ≡ sizeIn (number 0 (a ∷ b ∷ c ∷ d ∷ e ∷ f ∷ []))
 unfolding sizeIn
 size-bytes a b c d e f hb hc hd he hf =
@@ -61,6 +61,15 @@ size-bytes a b c d e f hb hc hd he hf =
     let u : h / 4294967296 ≡ a * 256 + b = omega arith in
     let v : h / 256 ≡ (((a * 256 + b) * 256 + c) * 256 + d) * 256 + e = omega arith in
     rw (← div-div-eq-div-mul h 4294967296 16, ← div-div-eq-div-mul h 256 16, u, v, high-nibble a b hb, high-bytes ((a * 256 + b) * 256 + c) d e hd he) (omega arith)
+
+-- read with the parity byte between them
+pub size-four : (a b c d e f x : ℕ) → b < 256 → c < 256 → d < 256 → e < 256 → f < 256 → x ≡ number 0 (b ∷ c ∷ d ∷ e ∷ [])
+    → x / 268435456 * 4096 + x / 16 % 4096 ≡ sizeIn (number 0 (a ∷ b ∷ c ∷ d ∷ e ∷ f ∷ []))
+size-four a b c d e f x hb hc hd he hf xe =
+    let u : x / 268435456 ≡ b / 16 = omega arith in
+    let w : x ≡ ((b * 256 + c) * 256 + d) * 256 + e = omega arith in
+    let v : x / 16 % 4096 ≡ d * 16 + e / 16 = rw w (high-bytes (b * 256 + c) d e hd he) in
+    rw (u, v) (omega arith) ∙ size-bytes a b c d e f hb hc hd he hf
 
 -- a header's number by its two code words
 number-word : (m v : ℕ) → v < 2 ^ 24 → number m (digits 3 v) ≡ m * 16777216 + v

@@ -54,7 +54,12 @@ pub fn put_sp(buf: &mut [u8], q: Ring, content: u8, sp: &[u8], piece: usize) -> 
     ensures { λ r. ⌜ record { ring = r; bytes = now (buf .exit) } ≡ Put (now (buf .entry)) q (spBytes piece content (now (sp .entry))) ⌝ }
 {
     if sp.len() <= piece {
-        let complete = crate::complete::header(content, sp.len());
+        // not 4,096, by which the compiler would read a record's length byte by byte
+        if sp.len() < 4095 {
+            let short = crate::complete::short_header(content, sp.len());
+            return put_ep(buf, q, short, sp);
+        }
+        let complete = wire::header_of(content, 0, sp.len() as u16);
         return put_ep(buf, q, complete, sp);
     }
     let first = wire::header_of(content, 1, piece as u16);

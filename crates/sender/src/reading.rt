@@ -87,7 +87,7 @@ pub fn low_at(payload: usize, buf: &[u8], q: Ring) -> usize
     low_in(payload, q.len, words_at(buf, q))
 }
 
-// The length in the header at place i of what the ring holds. Only the three bytes that have it are read.
+// The length in the header at place i of what the ring holds. Only the four bytes about it are read.
 fn size_at(buf: &[u8], q: Ring, i: usize) -> usize
     requires { ⌜ Kept (now buf) q ⌝ }
     requires { ⌜ i + 6 ≤ q .len ⌝ }
@@ -97,7 +97,8 @@ fn size_at(buf: &[u8], q: Ring, i: usize) -> usize
     if buf.len() - at < 6 {
         return size_in(head_across(buf, q, i));
     }
-    (buf[at + 1] / 16) as usize * 4096 + buf[at + 3] as usize * 16 + (buf[at + 4] / 16) as usize
+    let x = digits::from_four(buf[at + 1], buf[at + 2], buf[at + 3], buf[at + 4]);
+    x / 268435456 * 4096 + x / 16 % 4096
 }
 
 // The bytes of the EP at place at, at most what is held.
