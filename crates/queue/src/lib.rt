@@ -139,7 +139,9 @@ pub fn push(buf: &mut [u8], q: Ring, h: [u8; 6], body: &[u8]) -> Ring
         write_apart(buf, q, h, body);
         return t;
     }
-    copy_run(buf, tail, &h, 6);
+    // in two runs, each of which the compiler stores at once
+    copy_run(buf, tail, &h[0..4], 4);
+    copy_run(buf, tail + 4, &h[4..6], 2);
     copy_run(buf, tail + 6, body, body.len());
     t
 }

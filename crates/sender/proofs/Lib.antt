@@ -5,7 +5,9 @@ pub mod Puts
 pub mod Pieces
 pub mod PutPieces
 pub mod Offers
+pub mod Firsts
 pub mod Heads
+pub mod Accepted
 pub mod Lows
 pub mod RestAfter
 pub mod Stream

@@ -1,19 +1,22 @@
 -- What the private steps of an offer and of a draw ensure of each other. Assumes nothing.
 use mathlib.Core.Path.{_≡_}
-use mathlib.Core.Bool.{Bool, true, false, not}
+use mathlib.Core.Bool.{Bool, true, false, cond, not}
 use mathlib.Core.List.{List, _++_, flatten}
-use Prim.Native.Nat.{ℕ, suc, _+_, _-_, _≤_, min}
-use lib.Dec.{ltb}
+use Prim.Native.Nat.{ℕ, suc, _+_, _-_, _*_, _≤_, min}
+use lib.Dec.{eqb, ltb}
 use lib.ListN.{length, take}
+use Rattle.golay.specs.Golay.{codeWord}
 use Rattle.queue.specs.declared.Ring.{Ring}
-use Rattle.queue.specs.Ring.{Left, held, longer, written, off}
+use Rattle.queue.specs.Ring as R
+use Rattle.queue.specs.Ring.{held, longer, written, off}
 use Rattle.sender.specs.declared.Refusal.{Refusal}
 use Rattle.sender.specs.declared.Refusal.the-variants.{Content, Long, Full}
 use Rattle.sender.specs.declared.checks.Check.{Check}
 use Rattle.sender.specs.declared.checks.Check.the-variants.{Fine, No}
 use Rattle.sender.specs.declared.Sender.{Sender}
 use Rattle.sender.specs.Offering.{known, spBytes}
-use Rattle.sender.specs.Drawing.{leave, part, stream, owedAfter}
+use Rattle.sender.specs.Answers.{Left}
+use Rattle.sender.specs.Drawing.{lowAt, leave, part, stream, owedAfter, took, drawBy}
 
 -- ---- an offer
 
@@ -40,8 +43,12 @@ abbrev pub withLow : Sender → Ring → Sender
 withLow s q = record { setting = s .setting; low = q; ordinary = s .ordinary; owed = s .owed; rest = s .rest }
 
 -- e put behind what q holds in b
-abbrev pub Put : List ℕ → Ring → List ℕ → Left
+abbrev pub Put : List ℕ → Ring → List ℕ → R.Left
 Put b q e = record { ring = longer q (length e); bytes = written b q e }
+
+-- the first word of a complete EP's header whose length is below 4,096: it says the content alone; of an unknown content none
+unfoldable pub firstWord : ℕ → ℕ
+firstWord c = cond (known c) (codeWord (c * 64)) 0xFFFFFFFF
 
 -- ---- a draw
 
@@ -54,6 +61,14 @@ pub record Parted (P : ℕ) (b : List ℕ) (q : Ring) (d d′ : List ℕ) (r : R
   pub ring : r ≡ off (length b) q (length (flatten (leave (suc P) P (held b q) P)))
   pub gone : length (flatten (leave (suc P) P (held b q) P)) ≤ q .len
 
+-- that was tried: nothing is written where no LLEP leaves, by which at tells whether there is one, or where d hasn't the TP length
+pub record Looked (P : ℕ) (b : List ℕ) (q : Ring) (d d′ : List ℕ) (r : Ring) (at : ℕ) : Type 0 where
+  pub some : eqb at 4 ≡ eqb (lowAt P (held b q)) 0
+  pub same : length d′ ≡ length d
+  pub none : at ≡ 4 → d′ ≡ d
+  pub other : (length d ≡ P + 4 → ⊥) → d′ ≡ d
+  pub parted : length d ≡ P + 4 → Parted P b q d d′ r at
+
 -- the ordinary bytes were written into d from place at to its end: r is the ring then
 pub record Filled (b : List ℕ) (q : Ring) (owed : ℕ) (d : List ℕ) (at : ℕ) (d′ : List ℕ) (r : Ring) (n owed′ : ℕ) : Type 0 where
   pub bytes : d′ ≡ take at d ++ take (length d - at) (stream (length d - at) owed (held b q))
@@ -61,3 +76,7 @@ pub record Filled (b : List ℕ) (q : Ring) (owed : ℕ) (d : List ℕ) (at : �
   pub gone : n ≡ min (length d - at - owed) (length (held b q))
   pub ring : r ≡ off (length b) q n
   pub left : owed′ ≡ owedAfter (length d - at) owed (held b q)
+
+-- a draw from any buffers of the opening's lengths comes to x
+abbrev pub DrawnOver : Sender → Left → Type 0
+DrawnOver s x = (low own : List ℕ) → length low ≡ s .setting .lowspace → length own ≡ s .setting .space → x ≡ took s (drawBy s low own)

@@ -1,10 +1,11 @@
 // An SP's EPs, put into a queue.
 ghost use mathlib.Core.Path.{_≡_};
+ghost use mathlib.Core.Bool.{true};
 ghost use mathlib.Core.List.{_++_, flatten};
 ghost use Prim.Native.Nat.{_+_, _≤_, _<_};
 ghost use lib.ListN.{length, drop};
 ghost use Rattle.queue.specs.Ring.{Kept};
-ghost use Rattle.sender.specs.Offering.{later, spBytes};
+ghost use Rattle.sender.specs.Offering.{known, later, spBytes};
 ghost use Rattle.sender.specs.Steps.{Put};
 use queue::Ring;
 
@@ -17,15 +18,12 @@ pub fn put_ep(buf: &mut [u8], q: Ring, h: [u8; 6], body: &[u8]) -> Ring
     queue::push(buf, q, h, body)
 }
 
-// The bytes that the EPs of an SP take.
-pub fn needed(content: u8, sp: &[u8], piece: usize) -> usize
-    requires { ⌜ (1 ≤ piece) × (length (now sp) ≤ 1048576) ⌝ }
+// The bytes that the EPs of an SP in several pieces take.
+pub fn in_pieces(content: u8, sp: &[u8], piece: usize) -> usize
+    requires { ⌜ (1 ≤ piece) × ((piece < length (now sp)) × (length (now sp) ≤ 1048576)) ⌝ }
     ensures { λ r. ⌜ r ≡ length (spBytes piece content (now (sp .entry))) ⌝ }
 {
     let n = sp.len();
-    if n <= piece {
-        return 6 + n;
-    }
     n + 6 * ((n - 1) / piece + 1)
 }
 
@@ -51,11 +49,16 @@ fn put_later(buf: &mut [u8], q: Ring, content: u8, sp: &[u8], piece: usize) -> R
 // Puts an SP's EPs behind what the ring holds.
 pub fn put_sp(buf: &mut [u8], q: Ring, content: u8, sp: &[u8], piece: usize) -> Ring
     requires { ⌜ Kept (now buf) q ⌝ }
-    requires { ⌜ (1 ≤ piece) × (piece ≤ 65535) ⌝ }
+    requires { ⌜ (1 ≤ piece) × ((piece ≤ 65535) × (known content ≡ true)) ⌝ }
     requires { ⌜ q .len + length (spBytes piece content (now sp)) ≤ length (now buf) ⌝ }
     ensures { λ r. ⌜ record { ring = r; bytes = now (buf .exit) } ≡ Put (now (buf .entry)) q (spBytes piece content (now (sp .entry))) ⌝ }
 {
     if sp.len() <= piece {
+        // not 4,096, by which the compiler would read a record's length byte by byte
+        if sp.len() < 4095 {
+            let short = crate::complete::short_header(content, sp.len());
+            return put_ep(buf, q, short, sp);
+        }
         let complete = wire::header_of(content, 0, sp.len() as u16);
         return put_ep(buf, q, complete, sp);
     }

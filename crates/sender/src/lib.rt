@@ -5,10 +5,11 @@ ghost use lib.ListN.{length};
 ghost use Rattle.sender.specs.Answers.{givenBy, done, lent};
 ghost use Rattle.sender.specs.Opening.{opened, Sound, SoundAnswer};
 ghost use Rattle.sender.specs.Offering.{ordinaryOffered, lowOffered};
-ghost use Rattle.sender.specs.Drawing.{took, drawBy, drew};
-ghost use Rattle.sender.specs.Steps.{withOrdinary, withLow};
+ghost use Rattle.sender.specs.Drawing.{drew};
+ghost use Rattle.sender.specs.Steps.{withOrdinary, withLow, DrawnOver};
 
 mod checks;
+mod complete;
 mod eps;
 mod ordinary;
 mod part;
@@ -152,23 +153,54 @@ pub fn offer_low(s: Sender, low: &mut [u8], ordinary: &[u8], content: u8, sp: &[
     if let Check::No(k) = checks::judged(content, sp, g.payload - 7, 65535, g.lowspace - q.len) {
         return Answer::Refused(k);
     }
-    let h = wire::header_of(content, 0, sp.len() as u16);
+    let h = complete::short_header(content, sp.len());
     let t = eps::put_ep(low, q, h, sp);
     Answer::Done(with_low(s, t))
 }
 
-// Fills a TP. The header comes last, since what is behind it says what it says.
-fn filled(s: Sender, low: &[u8], ordinary: &[u8], tp: &mut [u8]) -> Sender
+// A TP of fill alone: nothing is queued, and nothing owed. Its header says that an EP begins at once.
+fn only_fill(s: Sender, tp: &mut [u8]) -> Sender
     requires { ⌜ Sound s ⌝ }
-    requires { ⌜ (length (now low) ≡ s .setting .lowspace) × (length (now ordinary) ≡ s .setting .space) × (length (now tp) ≡ s .setting .payload + 4) ⌝ }
-    ensures { λ r. ⌜ record { given = done r; buffer = now (tp .exit) } ≡ took s (drawBy s (now (low .entry)) (now (ordinary .entry))) ⌝ }
+    requires { ⌜ (s .low .len + s .ordinary .len + s .owed ≡ 0) × (length (now tp) ≡ s .setting .payload + 4) ⌝ }
+    ensures { λ r. ⌜ DrawnOver s (record { given = done r; buffer = now (tp .exit) }) ⌝ }
     ensures { λ r. ⌜ Sound r ⌝ }
+{
+    let g = s.setting;
+    let l = s.low;
+    let q = s.ordinary;
+    let owed = ordinary::fill_part(tp, 4);
+    let h = wire::tp_header_of(g.stream as u8, false, 0);
+    queue::copy_at(tp, 0, &h);
+    Sender {
+        setting: g,
+        low: l,
+        ordinary: q,
+        owed,
+        rest: 0,
+    }
+}
+
+// Fills a TP. The header comes last, since what is behind it says what it says.
+fn filled(s: Sender, low: &[u8], ordinary: &[u8], tp: &mut [u8]) -> Answer
+    requires { ⌜ Sound s ⌝ }
+    requires { ⌜ (length (now low) ≡ s .setting .lowspace) × (length (now ordinary) ≡ s .setting .space) ⌝ }
+    ensures { λ r. ⌜ record { given = givenBy r; buffer = now (tp .exit) } ≡ drew s (now (low .entry)) (now (ordinary .entry)) (now (tp .entry)) ⌝ }
+    ensures { λ r. ⌜ SoundAnswer r ⌝ }
 {
     let g = s.setting;
     let l = s.low;
     let q = s.ordinary;
     let p = part::low_part(g.payload, low, l, tp);
     let at = p.at;
+    // something is queued, and no LLEP at its head
+    if 0 < l.len {
+        if at == 4 {
+            return Answer::Refused(Refusal::Limits);
+        }
+    }
+    if tp.len() != g.payload + 4 {
+        return Answer::Refused(Refusal::Buffer);
+    }
     let t = p.ring;
     let o = ordinary::ordinary_part(ordinary, q, s.owed, tp, at);
     let u = o.ring;
@@ -176,13 +208,13 @@ fn filled(s: Sender, low: &[u8], ordinary: &[u8], tp: &mut [u8]) -> Sender
     let h = wire::tp_header_of(g.stream as u8, 4 < at, offset);
     queue::copy_at(tp, 0, &h);
     let rest = ordinary::rest_after(ordinary, q, s.rest, o.gone);
-    Sender {
+    Answer::Done(Sender {
         setting: g,
         low: t,
         ordinary: u,
         owed: o.owed,
         rest,
-    }
+    })
 }
 
 // Draws a TP. The queues are lent as they are, so that only the sender's rings move.
@@ -193,14 +225,14 @@ pub fn draw(s: Sender, low: &[u8], ordinary: &[u8], tp: &mut [u8]) -> Answer
 {
     let g = s.setting;
     let l = s.low;
+    let q = s.ordinary;
     if !is_lent(g, low.len(), ordinary.len()) {
         return Answer::Refused(Refusal::Limits);
     }
-    if reading::is_overwritten(g.payload, low, l) {
-        return Answer::Refused(Refusal::Limits);
+    if l.len + q.len + s.owed == 0 {
+        if tp.len() == g.payload + 4 {
+            return Answer::Done(only_fill(s, tp));
+        }
     }
-    if tp.len() != g.payload + 4 {
-        return Answer::Refused(Refusal::Buffer);
-    }
-    Answer::Done(filled(s, low, ordinary, tp))
+    filled(s, low, ordinary, tp)
 }

@@ -24,7 +24,7 @@ pub fn rest_after(buf: &[u8], q: Ring, rest: usize, n: usize) -> usize
 }
 
 // Writes fill into dst from place at to its end, and tells how many of its bytes are owed.
-fn fill_part(dst: &mut [u8], at: usize) -> usize
+pub fn fill_part(dst: &mut [u8], at: usize) -> usize
     requires { ⌜ (at ≤ length (now dst)) × (length (now dst) ≤ 2051) ⌝ }
     ensures { λ _. ⌜ now (dst .exit) ≡ take at (now (dst .entry)) ++ take (length (now (dst .entry)) - at) (fill (length (now (dst .entry)) - at)) ⌝ }
     ensures { λ r. ⌜ r ≡ length (fill (length (now (dst .entry)) - at)) - (length (now (dst .entry)) - at) ⌝ }
@@ -97,16 +97,6 @@ pub fn ordinary_part(buf: &[u8], q: Ring, owed: usize, tp: &mut [u8], at: usize)
     if owed <= r {
         if r - owed <= q.len {
             return queued_part(buf, q, owed, tp, at);
-        }
-    }
-    if owed == 0 {
-        if q.len == 0 {
-            let more = fill_part(tp, at);
-            return Own {
-                ring: q,
-                gone: 0,
-                owed: more,
-            };
         }
     }
     padded_part(buf, q, owed, tp, at)

@@ -1,39 +1,13 @@
 // The low-latency part of a TP.
 ghost use mathlib.Core.Path.{_≡_};
 ghost use mathlib.Core.Bool.{cond};
-ghost use Prim.Native.Nat.{_+_, _≤_};
-ghost use lib.Dec.{eqb};
-ghost use lib.ListN.{length};
-ghost use Rattle.queue.specs.Ring.{held, Kept};
-ghost use Rattle.sender.specs.Drawing.{next};
-ghost use Rattle.sender.specs.Steps.{Parted};
+ghost use Prim.Native.Nat.{_-_, _≤_, _<_};
+ghost use lib.Dec.{ltb};
+ghost use lib.ListN.{length, set};
+ghost use Rattle.queue.specs.Ring.{Kept};
+ghost use Rattle.sender.specs.Steps.{Looked};
+use crate::reading::low_at;
 use queue::Ring;
-
-// The bytes of the next LLEP, if it and its end byte fit in what is left; otherwise 0.
-fn next_low(payload: usize, buf: &[u8], q: Ring, left: usize) -> usize
-    requires { ⌜ Kept (now buf) q ⌝ }
-    requires { ⌜ q .len ≤ 1048576 ⌝ }
-    ensures { λ r. ⌜ r ≡ next payload (held (now (buf .entry)) q) left ⌝ }
-{
-    if q.len < 6 {
-        return 0;
-    }
-    let n = crate::reading::low_at(payload, buf, q);
-    if n < left {
-        return n;
-    }
-    0
-}
-
-// The end byte where the next LLEP has n bytes.
-fn end_byte(n: usize) -> u8
-    ensures { λ r. ⌜ r ≡ cond (eqb n 0) 0 255 ⌝ }
-{
-    if n == 0 {
-        return 0;
-    }
-    255
-}
 
 // The ring behind the part, and the part's end in the TP.
 pub struct Part {
@@ -41,21 +15,37 @@ pub struct Part {
     pub at: usize,
 }
 
-// Writes the low-latency part into a TP.
+// The last LLEP's end byte, if any LLEP stands before place at.
+fn end(tp: &mut [u8], at: usize)
+    requires { ⌜ (4 < at → at ≤ length (now tp)) ⌝ }
+    ensures { λ _. ⌜ now (tp .exit) ≡ cond (ltb 4 at) (set (now (tp .entry)) (at - 1) 0) (now (tp .entry)) ⌝ }
+{
+    if 4 < at {
+        tp[at - 1] = 0;
+    }
+}
+
+// Writes the low-latency part into a TP, if it has the TP length. There is one place that looks for the next LLEP: so the
+// compiler puts it into the loop.
 pub fn low_part(payload: usize, buf: &[u8], q: Ring, tp: &mut [u8]) -> Part
     requires { ⌜ Kept (now buf) q ⌝ }
-    requires { ⌜ (length (now tp) ≡ payload + 4) × (payload ≤ 2047) × (q .len ≤ 1048576) ⌝ }
-    ensures { λ r. ⌜ Parted payload (now (buf .entry)) q (now (tp .entry)) (now (tp .exit)) (r .ring) (r .at) ⌝ }
+    requires { ⌜ payload ≤ 2047 ⌝ }
+    ensures { λ r. ⌜ Looked payload (now (buf .entry)) q (now (tp .entry)) (now (tp .exit)) (r .ring) (r .at) ⌝ }
 {
     let mut t = q;
     let mut at = 4;
-    let mut n = next_low(payload, buf, t, payload);
-    while 0 < n {
+    loop {
+        let n = low_at(payload + 4 - at, buf, t);
+        if n == 0 {
+            break;
+        }
+        if tp.len() != payload + 4 {
+            return Part { ring: t, at: 5 };
+        }
         t = queue::pop_into(buf, t, tp, at, n);
-        at = at + n;
-        n = next_low(payload, buf, t, payload + 3 - at);
-        tp[at] = end_byte(n);
-        at = at + 1;
+        tp[at + n] = 255;
+        at = at + n + 1;
     }
+    end(tp, at);
     Part { ring: t, at }
 }

@@ -1,7 +1,10 @@
--- `sender::filled` meets its contract, by the laws `finished` and `still-sound`. Assumes nothing.
-use mathlib.Core.Path.{refl}
+-- `sender::filled` meets its contract: each refusal, or a TP by the laws `finished` and `still-sound`. Assumes nothing.
+use mathlib.Core.Path.{refl, sym, ap, _∙_}
+use mathlib.Core.Logic.{⊎-elim}
 use native.Mathlib.Omega.{arith}
-use Rattle.sender.proofs.Drawn.{gone-few, drawn-length, finished, still-sound}
+use lib.ListN.{length}
+use Rattle.sender.specs.Answers.{refused}
+use Rattle.sender.proofs.Drawn.{kept-low, kept-own, space-most, gone-few, drawn-length, finished, still-sound, looked-over, looked-well, looked-empty, is-lent, draw-overwritten, draw-5, draw-done}
 use borrow.Author.Needs.{needs}
 use Rattle.sender.proofs.filled.Statement.{statement}
 use Rattle.sender.proofs.filled.Tie as tie
@@ -9,15 +12,63 @@ use Rattle.sender.proofs.filled.Tie as tie
 low-part-requires : tie.Need-low-part-requires
 low-part-requires c κs = search needs
 
+same-length : tie.Need-same-length
+same-length c = c .before .before .before .before .before .low-part .ensures .same
+
+returns : tie.Need-returns
+returns c =
+    let s = c .before .before .before .before .before .before .before .before .before .before .before .before .before in
+    let a = s .args in
+    let w = s .pre .0 in
+    let e = is-lent (a .s .setting) (length (a .low .now)) (length (a .ordinary .now)) (s .pre .1 .0) (s .pre .1 .1) in
+    let k = c .before .before .before .before .before .low-part .ensures in
+    let kl = kept-low (a .s) w (a .low .now) (s .pre .1 .0) in
+    (ap (refused 1) (k .none (c .if2 .taken)) ∙ draw-overwritten (a .s) (a .low .now) (a .ordinary .now) (a .tp .now) e (looked-over (a .s .setting .payload) (a .low .now) (a .s .low) (a .tp .now) _ _ _ k kl (c .before .if1 .taken) (c .if2 .taken)), tt)
+
+add-if3 : tie.Need-add-if3
+add-if3 c = search needs
+
+same-length-2 : tie.Need-same-length-2
+same-length-2 c = c .before .before .before .before .before .before .low-part .ensures .same
+
+returns-2 : tie.Need-returns-2
+returns-2 c =
+    let s = c .before .before .before .before .before .before .before .before .before .before .before .before .before .before in
+    let a = s .args in
+    let w = s .pre .0 in
+    let e = is-lent (a .s .setting) (length (a .low .now)) (length (a .ordinary .now)) (s .pre .1 .0) (s .pre .1 .1) in
+    let k = c .before .before .before .before .before .before .low-part .ensures in
+    let kl = kept-low (a .s) w (a .low .now) (s .pre .1 .0) in
+    let no = ⊎-elim (λ h. looked-well (a .s .setting .payload) (a .low .now) (a .s .low) (a .tp .now) _ _ _ k kl (h .0 .taken) (h .1 .left)) (λ h. looked-empty (a .s .setting .payload) (a .low .now) (a .s .low) (a .tp .now) _ _ _ k kl (h .left)) (c .before .before .if1 .came) in
+    (ap (refused 5) (k .other (λ f. c .if3 .taken (k .same ∙ f))) ∙ draw-5 (a .s) (a .low .now) (a .ordinary .now) (a .tp .now) e no (λ f. c .if3 .taken (k .same ∙ f)), tt)
+
 ordinary-part-requires : tie.Need-ordinary-part-requires
-ordinary-part-requires c κs = search needs
+ordinary-part-requires c κs =
+    let s = c .before .before .before .before .before .before .before .before .before .before .before .before .before .before .before .before in
+    let w = s .pre .0 in
+    let k = c .before .before .before .before .before .before .before .before .low-part .ensures in
+    let ed = sym (k .same) ∙ c .before .before .if3 .left in
+    let p = k .parted ed .within in
+    let m = w .payload-most in
+    let o = w .owed in
+    let d = k .same in
+    (kept-own (s .args .s) w (s .args .ordinary .now) (s .pre .1 .1), (omega arith, omega arith, o))
 
 sub-offset-of : tie.Need-sub-offset-of
-sub-offset-of c = search needs
+sub-offset-of c =
+    let s = c .before .before .before .before .before .before .before .before .before .before .before .before .before .before .before .before .before .before .before .before in
+    let w = s .pre .0 in
+    let k = c .before .before .before .before .before .before .before .before .before .before .before .before .low-part .ensures in
+    let ed = sym (k .same) ∙ c .before .before .before .before .before .before .if3 .left in
+    let p = k .parted ed in
+    let pw = p .within in
+    let pe = p .end in
+    let m = w .payload-most in
+    omega arith
 
 add-offset-of : tie.Need-add-offset-of
 add-offset-of c =
-    let w = c .before .before .before .before .before .before .before .before .before .before .before .before .before .before .before .before .before .pre .0 in
+    let w = c .before .before .before .before .before .before .before .before .before .before .before .before .before .before .before .before .before .before .before .before .before .pre .0 in
     let w₁ = w .owed in
     let w₂ = w .rest in
     let w₃ = w .len in
@@ -25,20 +76,34 @@ add-offset-of c =
     omega arith
 
 add-offset-of-2 : tie.Need-add-offset-of-2
-add-offset-of-2 c = let w₁ = c .before .before .before .before .before .before .before .before .before .before .before .before .before .before .before .before .before .before .pre .0 .payload-most in omega arith
+add-offset-of-2 c = let m = c .before .before .before .before .before .before .before .before .before .before .before .before .before .before .before .before .before .before .before .before .before .before .pre .0 .payload-most in omega arith
 
 sub-offset-of-2 : tie.Need-sub-offset-of-2
-sub-offset-of-2 c = search needs
+sub-offset-of-2 c =
+    let s = c .before .before .before .before .before .before .before .before .before .before .before .before .before .before .before .before .before .before .before .before .before .before in
+    let w = s .pre .0 in
+    let k = c .before .before .before .before .before .before .before .before .before .before .before .before .before .before .low-part .ensures in
+    let ed = sym (k .same) ∙ c .before .before .before .before .before .before .before .before .if3 .left in
+    let p = k .parted ed in
+    let pw = p .within in
+    let pe = p .end in
+    let m = w .payload-most in
+    omega arith
 
 offset-of-requires : tie.Need-offset-of-requires
 offset-of-requires c κs =
-    let w₁ = c .before .before .before .before .before .before .before .before .before .before .before .before .before .before .before .before .before .before .pre .0 .payload-most in
-    let e = c .before .before .before .before .before .before .before .before .before .before .low-part .ensures .within in
-    let e₂ = c .before .before .before .before .before .before .before .before .before .before .low-part .ensures .end in
+    let s = c .before .before .before .before .before .before .before .before .before .before .before .before .before .before .before .before .before .before .before .before .before .before in
+    let w = s .pre .0 in
+    let k = c .before .before .before .before .before .before .before .before .before .before .before .before .before .before .low-part .ensures in
+    let ed = sym (k .same) ∙ c .before .before .before .before .before .before .before .before .if3 .left in
+    let p = k .parted ed in
+    let pw = p .within in
+    let pe = p .end in
+    let m = w .payload-most in
     omega arith
 
 cast-tp-header-of : tie.Need-cast-tp-header-of
-cast-tp-header-of c = let m = c .before .before .before .before .before .before .before .before .before .before .before .before .before .before .before .before .before .before .before .before .pre .0 .stream in record { fits = omega arith }
+cast-tp-header-of c = let m = c .before .before .before .before .before .before .before .before .before .before .before .before .before .before .before .before .before .before .before .before .before .before .before .before .pre .0 .stream in record { fits = omega arith }
 
 tp-header-of-requires : tie.Need-tp-header-of-requires
 tp-header-of-requires c κs = search needs
@@ -51,33 +116,49 @@ copy-at-requires c κs = search needs
 
 rest-after-requires : tie.Need-rest-after-requires
 rest-after-requires c κs =
-    let s = c .before .before .before .before .before .before .before .before .before .before .before .before .before .before .before .before .before .before .before .before .before .before .before .before .before .before in
+    let s = c .before .before .before .before .before .before .before .before .before .before .before .before .before .before .before .before .before .before .before .before .before .before .before .before .before .before .before .before .before .before in
     let a = s .args in
     let w = s .pre .0 in
-    let wh = w .head in
-    let wl = w .len in
-    let ws = w .space in
-    let eo = s .pre .1 .1 in
-    (record { head = omega arith; len = omega arith }, (w .rest, gone-few (a .s) w (a .low .now) (a .ordinary .now) (a .tp .now) _ _ _ _ _ _ _ (s .pre .1 .0) (s .pre .1 .1) (s .pre .1 .2) (c .before .before .before .before .before .before .before .before .before .before .before .before .before .before .before .before .before .before .low-part .ensures) (c .before .before .before .before .before .before .before .before .before .before .before .before .before .ordinary-part .ensures), omega arith))
+    let k = c .before .before .before .before .before .before .before .before .before .before .before .before .before .before .before .before .before .before .before .before .before .before .low-part .ensures in
+    let ed = sym (k .same) ∙ c .before .before .before .before .before .before .before .before .before .before .before .before .before .before .before .before .if3 .left in
+    let p = k .parted ed in
+    (kept-own (a .s) w (a .ordinary .now) (s .pre .1 .1), (w .rest, gone-few (a .s) w (a .low .now) (a .ordinary .now) (a .tp .now) _ _ _ _ _ _ _ (s .pre .1 .0) (s .pre .1 .1) ed p (c .before .before .before .before .before .before .before .before .before .before .before .before .before .ordinary-part .ensures), space-most (a .s) w))
 
-same-length : tie.Need-same-length
-same-length c =
-    let s = c .before .before .before .before .before .before .before .before .before .before .before .before .before .before .before .before .before .before .before .before .before .before .before .before .before .before .before in
-    let a = s .args in
-    drawn-length (a .s) (s .pre .0) (a .low .now) (a .ordinary .now) (a .tp .now) _ _ _ _ _ _ _ (s .pre .1 .0) (s .pre .1 .1) (s .pre .1 .2) (c .before .before .before .before .before .before .before .before .before .before .before .before .before .before .before .before .before .before .before .low-part .ensures) (c .before .before .before .before .before .before .before .before .before .before .before .before .before .before .ordinary-part .ensures) _ (c .before .before .before .before .before .before .tp-header-of .result) (c .before .before .before .copy-at .ensures)
-
-returns : tie.Need-returns
-returns c =
-    let s = c .before .before .before .before .before .before .before .before .before .before .before .before .before .before .before .before .before .before .before .before .before .before .before .before .before .before .before in
+same-length-3 : tie.Need-same-length-3
+same-length-3 c =
+    let s = c .before .before .before .before .before .before .before .before .before .before .before .before .before .before .before .before .before .before .before .before .before .before .before .before .before .before .before .before .before .before .before in
     let a = s .args in
     let w = s .pre .0 in
-    (finished (a .s) w (a .low .now) (a .ordinary .now) (a .tp .now) _ _ _ _ _ _ _ (s .pre .1 .0) (s .pre .1 .1) (s .pre .1 .2) (c .before .before .before .before .before .before .before .before .before .before .before .before .before .before .before .before .before .before .before .low-part .ensures) (c .before .before .before .before .before .before .before .before .before .before .before .before .before .before .ordinary-part .ensures) _ _ _ _ _ (c .before .before .before .before .before .before .before .before .offset-of .ensures) refl (c .before .before .before .before .before .before .tp-header-of .ensures) (c .before .before .before .copy-at .ensures) (c .rest-after .ensures .0), still-sound (a .s) w (a .low .now) (a .ordinary .now) (a .tp .now) _ _ _ _ _ _ _ (s .pre .1 .0) (s .pre .1 .1) (s .pre .1 .2) (c .before .before .before .before .before .before .before .before .before .before .before .before .before .before .before .before .before .before .before .low-part .ensures) (c .before .before .before .before .before .before .before .before .before .before .before .before .before .before .ordinary-part .ensures) _ (c .rest-after .ensures .1))
+    let k = c .before .before .before .before .before .before .before .before .before .before .before .before .before .before .before .before .before .before .before .before .before .before .before .low-part .ensures in
+    let ed = sym (k .same) ∙ c .before .before .before .before .before .before .before .before .before .before .before .before .before .before .before .before .before .if3 .left in
+    let p = k .parted ed in
+    drawn-length (a .s) w (a .low .now) (a .ordinary .now) (a .tp .now) _ _ _ _ _ _ _ (s .pre .1 .0) (s .pre .1 .1) ed p (c .before .before .before .before .before .before .before .before .before .before .before .before .before .before .ordinary-part .ensures) _ (c .before .before .before .before .before .before .tp-header-of .result) (c .before .before .before .copy-at .ensures)
+
+returns-3 : tie.Need-returns-3
+returns-3 c =
+    let s = c .before .before .before .before .before .before .before .before .before .before .before .before .before .before .before .before .before .before .before .before .before .before .before .before .before .before .before .before .before .before .before in
+    let a = s .args in
+    let w = s .pre .0 in
+    let k = c .before .before .before .before .before .before .before .before .before .before .before .before .before .before .before .before .before .before .before .before .before .before .before .low-part .ensures in
+    let ed = sym (k .same) ∙ c .before .before .before .before .before .before .before .before .before .before .before .before .before .before .before .before .before .if3 .left in
+    let p = k .parted ed in
+    let o = c .before .before .before .before .before .before .before .before .before .before .before .before .before .before .ordinary-part .ensures in
+    let e = is-lent (a .s .setting) (length (a .low .now)) (length (a .ordinary .now)) (s .pre .1 .0) (s .pre .1 .1) in
+    let kl = kept-low (a .s) w (a .low .now) (s .pre .1 .0) in
+    let no = ⊎-elim (λ h. looked-well (a .s .setting .payload) (a .low .now) (a .s .low) (a .tp .now) _ _ _ k kl (h .0 .taken) (h .1 .left)) (λ h. looked-empty (a .s .setting .payload) (a .low .now) (a .s .low) (a .tp .now) _ _ _ k kl (h .left)) (c .before .before .before .before .before .before .before .before .before .before .before .before .before .before .before .before .before .before .before .if1 .came) in
+    let f = finished (a .s) w (a .low .now) (a .ordinary .now) (a .tp .now) _ _ _ _ _ _ _ (s .pre .1 .0) (s .pre .1 .1) ed p o _ _ _ _ _ (c .before .before .before .before .before .before .before .before .offset-of .ensures) refl (c .before .before .before .before .before .before .tp-header-of .ensures) (c .before .before .before .copy-at .ensures) (c .rest-after .ensures .0) in
+    (draw-done (a .s) (a .low .now) (a .ordinary .now) (a .tp .now) e no _ ed f, still-sound (a .s) w (a .low .now) (a .ordinary .now) (a .tp .now) _ _ _ _ _ _ _ (s .pre .1 .0) (s .pre .1 .1) ed p o _ (c .rest-after .ensures .1))
 
 pub filled-spec : {M : Type 1} → statement M
 filled-spec =
     tie.close
     (tie.spec
     low-part-requires
+    same-length
+    returns
+    add-if3
+    same-length-2
+    returns-2
     ordinary-part-requires
     sub-offset-of
     add-offset-of
@@ -89,5 +170,5 @@ filled-spec =
     slice-aggregate-copy-at
     copy-at-requires
     rest-after-requires
-    same-length
-    returns)
+    same-length-3
+    returns-3)

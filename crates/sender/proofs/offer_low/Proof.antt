@@ -43,17 +43,14 @@ returns-2 c =
 enum-told : tie.Need-enum-told
 enum-told c = search needs
 
-cast-header-of : tie.Need-cast-header-of
-cast-header-of c =
+short-header-requires : tie.Need-short-header-requires
+short-header-requires c κs =
     let a = c .before .before .before .before .before .before .before .before .before .before .before .before .before .args in
     let w = c .before .before .before .before .before .before .before .before .before .before .before .before .before .pre in
     let f = fine-is (a .content) (a .sp .now) (a .s .setting .payload - 7) 65535 (a .s .setting .lowspace - a .s .low .len) (sym (c .before .before .judged .ensures) ∙ c .enum-told .given .1) in
     let wq = w .payload-most in
     let m = f .1 .0 in
-    omega arith
-
-header-of-requires : tie.Need-header-of-requires
-header-of-requires c κs = search needs
+    (f .0, omega arith)
 
 put-ep-requires : tie.Need-put-ep-requires
 put-ep-requires c κs =
@@ -86,7 +83,7 @@ returns-3 c =
     let m = f .1 .0 in
     let n = f .1 .1 in
     let o = ap length (one-piece 65535 (a .content) (a .sp .now) (omega arith)) ∙ ep-length (a .content) 0 (a .sp .now) in
-    let u = put-as (a .low .now) (a .s .low) (a .content) 0 (length (a .sp .now)) _ _ _ (c .before .before .before .before .before .header-of .ensures) refl (c .before .before .before .put-ep .ensures) in
+    let u = put-as (a .low .now) (a .s .low) (a .content) 0 (length (a .sp .now)) _ _ _ (c .before .before .before .before .before .short-header .ensures) refl (c .before .before .before .put-ep .ensures) in
     (low-put (a .s) (a .low .now) (a .ordinary .now) (a .content) (a .sp .now) (sym (c .before .before .before .before .before .before .before .before .before .before .before .before .before .is-lent .ensures) ∙ not-false (c .before .before .before .before .before .before .before .before .before .before .before .before .before .is-lent .result) (c .before .before .before .before .before .before .before .before .before .before .before .before .if1 .left)) _ _ _ (c .with-low .ensures) (f .0) (omega arith) (omega arith) u, subst Sound (sym (c .with-low .ensures)) (low-sound (a .s) (a .low .now) (a .ordinary .now) (a .content) (a .sp .now) _ _ w (omega arith) u))
 
 pub offer-low-spec : {M : Type 1} → statement M
@@ -101,8 +98,7 @@ offer-low-spec =
     enum-known-k
     returns-2
     enum-told
-    cast-header-of
-    header-of-requires
+    short-header-requires
     put-ep-requires
     with-low-requires
     same-length

@@ -43,7 +43,7 @@ put-sp-requires c κs =
     let wh = w .head in
     let wl = w .len in
     let n = f .1 .1 in
-    (record { head = omega arith; len = omega arith }, ((w .piece-least, w .piece-most), omega arith))
+    (record { head = omega arith; len = omega arith }, ((w .piece-least, (w .piece-most, f .0)), omega arith))
 
 with-ordinary-requires : tie.Need-with-ordinary-requires
 with-ordinary-requires c κs = search needs

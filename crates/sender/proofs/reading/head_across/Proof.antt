@@ -57,7 +57,7 @@ returns c =
     let s = c .before .before .before .before .before .before .before .before .before in
     let a = s .args in
     let l = length-held (a .buf .now) (a .q) (s .pre .0) in
-    head-apart (held (a .buf .now) (a .q)) (a .i) _ _ _ _ _ _ _ _ (omega (arith, s .pre .1)) (c .before .before .before .before .before .before .before .byte-at .ensures) (c .before .before .before .before .before .before .byte-at2 .ensures) (c .before .before .before .before .before .byte-at3 .ensures) (c .before .before .before .before .byte-at4 .ensures) (c .before .before .byte-at5 .ensures) (c .before .byte-at6 .ensures) (c .before .before .before .from-four .ensures) (c .from-two .ensures)
+    (head-apart (held (a .buf .now) (a .q)) (a .i) _ _ _ _ _ _ _ _ (omega (arith, s .pre .1)) (c .before .before .before .before .before .before .before .byte-at .ensures) (c .before .before .before .before .before .before .byte-at2 .ensures) (c .before .before .before .before .before .byte-at3 .ensures) (c .before .before .before .before .byte-at4 .ensures) (c .before .before .byte-at5 .ensures) (c .before .byte-at6 .ensures) (c .before .before .before .from-four .ensures) (c .from-two .ensures), omega (arith, c .before .before .before .from-four .ensures, c .from-two .ensures))
 
 pub head-across-spec : {M : Type 1} → statement M
 head-across-spec =

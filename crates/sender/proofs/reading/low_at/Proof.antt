@@ -1,4 +1,4 @@
--- `reading::low_at` meets its contract: fewer than six bytes, or by the header's number. Assumes nothing.
+-- `reading::low_at` meets its contract: fewer than six bytes, or by the header's two words. Assumes nothing.
 use mathlib.Core.Path.{refl, _∙_}
 use native.Mathlib.Omega.{arith}
 use Rattle.queue.specs.Ring.{held}
@@ -15,8 +15,8 @@ returns c =
     let l = length-held (a .buf .now) (a .q) (c .before .before .before .pre .0) in
     low-few (a .payload) (held (a .buf .now) (a .q)) (omega arith)
 
-head-at-requires : tie.Need-head-at-requires
-head-at-requires c κs = search needs
+words-at-requires : tie.Need-words-at-requires
+words-at-requires c κs = search needs
 
 low-in-requires : tie.Need-low-in-requires
 low-in-requires c κs = search needs
@@ -26,7 +26,7 @@ unfolding lowAt
 returns-2 c =
     let a = c .before .before .before .before .before .args in
     let l = length-held (a .buf .now) (a .q) (c .before .before .before .before .before .pre .0) in
-    c .low-in .ensures ∙ rw (c .before .head-at .ensures, l) refl
+    c .low-in .ensures ∙ rw (c .before .words-at .ensures .0, l) refl
 
 pub low-at-spec : {M : Type 1} → statement M
-low-at-spec = tie.close (tie.spec returns head-at-requires low-in-requires returns-2)
+low-at-spec = tie.close (tie.spec returns words-at-requires low-in-requires returns-2)

@@ -1,11 +1,11 @@
--- `reading::size_at` meets its contract: by three bytes of one run, with the law `size-bytes`, or by the whole header. Assumes nothing.
+-- `reading::size_at` meets its contract: by four bytes of one run, with the law `size-four`, or by the whole header. Assumes nothing.
 use mathlib.Core.Path.{ap, _∙_}
 use Prim.Native.Nat.{ℕ, _+_}
 use native.Mathlib.Omega.{arith}
 use lib.ListN.{length, getD}
 use Rattle.queue.proofs.Runs.{place-in}
 use Rattle.sender.specs.Drawing.{sizeIn}
-use Rattle.sender.proofs.Heads.{head-run, size-bytes}
+use Rattle.sender.proofs.Heads.{head-run, size-four}
 use borrow.Author.Needs.{needs}
 use Rattle.sender.proofs.reading.size_at.Statement.{statement}
 use Rattle.sender.proofs.reading.size_at.Tie as tie
@@ -28,56 +28,51 @@ size-in-requires : tie.Need-size-in-requires
 size-in-requires c κs = search needs
 
 returns : tie.Need-returns
-returns c = (c .size-in .ensures .0 ∙ ap sizeIn (c .before .head-across .ensures), c .size-in .ensures .1)
+returns c = (c .size-in .ensures .0 ∙ ap sizeIn (c .before .head-across .ensures .0), c .size-in .ensures .1)
+
+add-from-four : tie.Need-add-from-four
+add-from-four c = search needs
+
+shared-slice-read-from-four : tie.Need-shared-slice-read-from-four
+shared-slice-read-from-four c = search needs
+
+add-from-four-2 : tie.Need-add-from-four-2
+add-from-four-2 c = search needs
+
+shared-slice-read-from-four-2 : tie.Need-shared-slice-read-from-four-2
+shared-slice-read-from-four-2 c = search needs
+
+add-from-four-3 : tie.Need-add-from-four-3
+add-from-four-3 c = search needs
+
+shared-slice-read-from-four-3 : tie.Need-shared-slice-read-from-four-3
+shared-slice-read-from-four-3 c = search needs
+
+add-from-four-4 : tie.Need-add-from-four-4
+add-from-four-4 c = search needs
+
+shared-slice-read-from-four-4 : tie.Need-shared-slice-read-from-four-4
+shared-slice-read-from-four-4 c = search needs
+
+from-four-requires : tie.Need-from-four-requires
+from-four-requires c κs = search needs
+
+mul-result : tie.Need-mul-result
+mul-result c = search needs
 
 add-result : tie.Need-add-result
 add-result c = search needs
 
-shared-slice-read-result : tie.Need-shared-slice-read-result
-shared-slice-read-result c = search needs
-
-cast-result : tie.Need-cast-result
-cast-result c = omega (arith, c .shared-slice-known2 .given (c .before .before .place-of .result + 1))
-
-mul-result : tie.Need-mul-result
-mul-result c = omega (arith, c .shared-slice-known2 .given (c .before .before .place-of .result + 1))
-
-add-result-2 : tie.Need-add-result-2
-add-result-2 c = search needs
-
-shared-slice-read-result-2 : tie.Need-shared-slice-read-result-2
-shared-slice-read-result-2 c = search needs
-
-cast-result-2 : tie.Need-cast-result-2
-cast-result-2 c = omega (arith, c .shared-slice-known3 .given (c .before .before .before .place-of .result + 3))
-
-mul-result-2 : tie.Need-mul-result-2
-mul-result-2 c = omega (arith, c .shared-slice-known3 .given (c .before .before .before .place-of .result + 3))
-
-add-result-3 : tie.Need-add-result-3
-add-result-3 c = omega (arith, c .shared-slice-known3 .given (c .before .before .before .place-of .result + 1), c .shared-slice-known3 .given (c .before .before .before .place-of .result + 3))
-
-add-result-4 : tie.Need-add-result-4
-add-result-4 c = search needs
-
-shared-slice-read-result-3 : tie.Need-shared-slice-read-result-3
-shared-slice-read-result-3 c = search needs
-
-cast-result-3 : tie.Need-cast-result-3
-cast-result-3 c = omega (arith, c .shared-slice-known4 .given (c .before .before .before .before .place-of .result + 4))
-
-add-result-5 : tie.Need-add-result-5
-add-result-5 c = omega (arith, c .shared-slice-known4 .given (c .before .before .before .before .place-of .result + 1), c .shared-slice-known4 .given (c .before .before .before .before .place-of .result + 3), c .shared-slice-known4 .given (c .before .before .before .before .place-of .result + 4))
-
 returns-2 : tie.Need-returns-2
 returns-2 c =
-    let s = c .before .before .before .before .before .before in
+    let s = c .before .before .before .before .before .before .before .before in
     let a = s .args in
     let b = a .buf .now in
-    let at : ℕ = c .before .before .before .before .place-of .result in
-    let byte = c .shared-slice-known4 .given in
-    let e = size-bytes (getD b at 0) (getD b (at + 1) 0) (getD b (at + 2) 0) (getD b (at + 3) 0) (getD b (at + 4) 0) (getD b (at + 5) 0) (omega (arith, byte (at + 1))) (omega (arith, byte (at + 2))) (omega (arith, byte (at + 3))) (omega (arith, byte (at + 4))) (omega (arith, byte (at + 5))) in
-    (e ∙ ap sizeIn (head-run b (a .q) (a .i) at (s .pre .0) (s .pre .1) (c .before .before .before .before .place-of .ensures) (omega (arith, c .before .before .before .if1 .left))), omega (arith, byte (at + 1), byte (at + 3), byte (at + 4)))
+    let at : ℕ = c .before .before .before .before .before .before .place-of .result in
+    let byte = c .before .shared-slice-known5 .given in
+    let x = c .from-four .ensures in
+    let e = size-four (getD b at 0) (getD b (at + 1) 0) (getD b (at + 2) 0) (getD b (at + 3) 0) (getD b (at + 4) 0) (getD b (at + 5) 0) _ (omega (arith, byte (at + 1))) (omega (arith, byte (at + 2))) (omega (arith, byte (at + 3))) (omega (arith, byte (at + 4))) (omega (arith, byte (at + 5))) x in
+    (e ∙ ap sizeIn (head-run b (a .q) (a .i) at (s .pre .0) (s .pre .1) (c .before .before .before .before .before .before .place-of .ensures) (omega (arith, c .before .before .before .before .before .if1 .left))), omega (arith, x, byte (at + 1), byte (at + 2), byte (at + 3), byte (at + 4)))
 
 pub size-at-spec : {M : Type 1} → statement M
 size-at-spec =
@@ -88,17 +83,15 @@ size-at-spec =
     head-across-requires
     size-in-requires
     returns
-    add-result
-    shared-slice-read-result
-    cast-result
+    add-from-four
+    shared-slice-read-from-four
+    add-from-four-2
+    shared-slice-read-from-four-2
+    add-from-four-3
+    shared-slice-read-from-four-3
+    add-from-four-4
+    shared-slice-read-from-four-4
+    from-four-requires
     mul-result
-    add-result-2
-    shared-slice-read-result-2
-    cast-result-2
-    mul-result-2
-    add-result-3
-    add-result-4
-    shared-slice-read-result-3
-    cast-result-3
-    add-result-5
+    add-result
     returns-2)
