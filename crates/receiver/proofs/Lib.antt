@@ -50,3 +50,4 @@ pub mod SinceLoss
 pub mod WordTests
 pub mod Worded
 pub mod Swiftly
+pub mod LaneAhead
