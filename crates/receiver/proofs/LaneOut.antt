@@ -42,7 +42,7 @@ use Rattle.receiver.specs.declared.walk.Turn.{Turn}
 use Rattle.receiver.specs.declared.walk.Walk.{Walk}
 use Rattle.receiver.specs.Call.{Gave, Gives, always, callAs, countedOf, dueCall, ordinaryBy, ordinaryCall, stageCall, stepped}
 use Rattle.receiver.specs.InOutset.{aheadOf}
-use Rattle.receiver.specs.InLanes.{EntersAs, SetAs, plainCall}
+use Rattle.receiver.specs.InLanes.{EntersAs, FitsIf, SetAs, plainCall}
 use Rattle.receiver.specs.InStages.{Leads, Lent}
 use Rattle.receiver.specs.InStride.{between}
 use Rattle.receiver.specs.InSwift.{madeOf}
@@ -250,6 +250,9 @@ module _ (n at : ℕ) (tp m : List ℕ) where
       let f : foreOf (Head 0 0) (drop at tp) ≡ At 0 = sym (ahead-fore tp at 0 0 (d .within) (omega arith) (omega arith)) in
       let w = walkIn (b .walk .began) L.Idle at in
       (refl, d .within, out-agree b k t tp m (d .whole) (d .full) o w (lane-lent b k o at L.Idle tp m d p (omega arith)) n e (f ∙ ap At (sym z)))
+
+pub fits-of : (r : Bool) (h : Header) (most : ℕ) → FitsIf r h most → r ≡ true → FitsIf true h most
+fits-of r h most f e = subst (λ (x : Bool). FitsIf x h most) e f
 
 pub tidy-as : (cap : ℕ) (l l′ : Lane) → l ≡ l′ → Tidy cap l → Tidy cap l′
 tidy-as cap l l′ e y = subst (Tidy cap) e y
