@@ -4,16 +4,16 @@ use mathlib.Core.Path.{_≡_, refl, sym, subst, ap, _∙_}
 use mathlib.Core.Bool.{Bool, true, false, cond}
 use mathlib.Core.Option.{Option, none, some}
 use mathlib.Core.List.{List}
-use Prim.Native.Nat.{ℕ, _+_, _-_, _≤_, _<_, _^_, min}
+use Prim.Native.Nat.{ℕ, _+_, _-_, _≤_, _<_, min}
 use native.Mathlib.Omega.{arith}
 use lib.Dec.{eqb, leb, ltb}
 use lib.ListN.{drop, length, length-drop, take}
-use lib.Seq.{length-take-le}
 use borrow.Author.Tests.{eq-eqb, le-ltb, lt-ltb, ne-eqb}
 use Rattle.digits.specs.Digits.{number}
 use Rattle.queue.specs.Ring.{copied}
 use Rattle.wire.specs.Reading.{headerIn, readOf}
 use Rattle.wire.specs.declared.Header.{Header}
+use Rattle.wire.specs.declared.Read.{Read}
 use Rattle.wire.specs.declared.Read.the-variants as R
 use Rattle.receiver.specs.declared.About.{About}
 use Rattle.receiver.specs.declared.Find.{Find}
@@ -23,7 +23,6 @@ use Rattle.receiver.specs.declared.Receiver.{Receiver}
 use Rattle.receiver.specs.declared.Stage.{Stage}
 use Rattle.receiver.specs.declared.Stage.the-variants.{Due, Fresh, Plain}
 use Rattle.receiver.specs.declared.Stamp.{Stamp}
-use Rattle.receiver.specs.declared.Step.{Step}
 use Rattle.receiver.specs.declared.entry.Begun.the-variants as B
 use Rattle.receiver.specs.declared.lane.Lane.{Lane}
 use Rattle.receiver.specs.declared.lane.Lane.the-variants as L
@@ -291,9 +290,10 @@ module _ (g : Place) (left len c e n at : ℕ) (tp m m′ : List ℕ) (y : Tidy 
       let a : Answer = record { walk = walkAt (at + n) (Body h (left - n)) g (Of c e g (len + n)); gain = Nothing } in
       let u : Ends (length m) t w tp m a m′ = subst (λ (r : Turn). Carries (length m) t w tp m r m′) (sym cut) (carries t) in
       let v = plain-gives b k t tp m (d .whole) (d .full) w a m′ (d .size) (sound-by b d) u same in
-      let z : len + n + (left - n) ≡ len + left = omega (arith, least) in
-      ( subst (λ (y : Gave). Gives y (endsIn (inLane b k (L.Busy g (left - n) (len + n) c e) Fresh 0) t) tp m′) (busy-same b k t o d p q) (rw z v),
-      ( omega (arith, least, f), omega (arith, least, d .full, y .1), y .2, y .3 ) )
+      let z : len + n + (left - n) ≡ len + left = omega (arith, least) in (
+        subst (λ (y : Gave). Gives y (endsIn (inLane b k (L.Busy g (left - n) (len + n) c e) Fresh 0) t) tp m′) (busy-same b k t o d p q) (rw z v),
+        (omega (arith, least, f), omega (arith, least, d .full, y .1), y .2, y .3),
+      )
     where
       cut : stops (at + n) (Body h (left - n)) g (Of c e g (len + n)) Nothing ≡ bodyTurn tp at h left g (Of c e g len)
       cut =
@@ -308,7 +308,7 @@ module _ (g : Place) (left len c e n at : ℕ) (tp m m′ : List ℕ) (y : Tidy 
       let u : Ends (length m) t w tp m a m′ = subst (λ (r : Turn). Carries (length m) t w tp m r m′) (sym read) (carries t) in
       let v = plain-gives b k t tp m (d .whole) (d .full) w a m′ (d .size) (sound-by b d) u same in
       let x = idle-began b k (at + n) g (b .walk .began) (F.Ordinary c (len + n)) (record { repaired = e; at = g }) (plainCall b k t w tp m) tp m′ v in
-      ( subst (λ (y : Gave). Gives y (stepTo (inLane b k L.Idle Plain (at + n)) (F.Ordinary c (len + n)) (record { repaired = e; at = g })) tp m′) (busy-same b k t o d p q) x, within )
+      (subst (λ (y : Gave). Gives y (stepTo (inLane b k L.Idle Plain (at + n)) (F.Ordinary c (len + n)) (record { repaired = e; at = g })) tp m′) (busy-same b k t o d p q) x, within)
     where
       read : stops (at + n) (Head 0 0) g Empty (Packet c e g (len + n)) ≡ bodyTurn tp at h left g (Of c e g len)
       read =
@@ -318,6 +318,12 @@ module _ (g : Place) (left len c e n at : ℕ) (tp m m′ : List ℕ) (y : Tidy 
           subst (λ (i : ℕ). stops (at + i) (Head 0 0) g Empty (Packet c e g (len + i)) ≡ bodyTurn tp at h left g (Of c e g len)) z x
 
 -- ---- in a header
+
+pub read-of : (w x : ℕ) (r : Read) (h : Header) → w ≡ x → r ≡ readOf (headerIn w) → r ≡ R.Whole h → readOf (headerIn x) ≡ R.Whole h
+read-of w x r h e f g = ap (λ (y : ℕ). readOf (headerIn y)) (sym e) ∙ sym f ∙ g
+
+pub least-of : (a i j n : ℕ) → i ≡ j → a + i ≡ n → a + j ≡ n
+least-of a i j n e f = ap (_+_ a) (sym e) ∙ f
 
 module _ (g : Place) (have word n at : ℕ) (tp m : List ℕ) (y : Tidy (length m) (L.Cut g have word)) (bytes : Bytes tp) (within : at ≤ length tp) where
   abbrev cut : Walk
@@ -350,9 +356,10 @@ module _ (g : Place) (have word n at : ℕ) (tp m : List ℕ) (y : Tidy (length 
       let s : Sound (b .limit) (b .size) cut = record { at = omega (arith, within, d .whole); phase = (y .1, y .2, omega arith) } in
       let v = plain-gives b k t tp m (d .whole) (d .full) cut a m (d .size) s u refl in
       let fore : At n ≡ aheadOf tp at have word = rw (begun, short) (ap At z) in
-      let i = u .sound .phase in
-      ( subst (λ (y : Gave). Gives y (endsIn (inLane b k (L.Cut g (have + r) x) Fresh 0) t) tp m) (cut-same b k t o d p e fore) (rw q v),
-      ( omega (arith, y .0), i .0, rw q (i .1) ) )
+      let i = u .sound .phase in (
+        subst (λ (y : Gave). Gives y (endsIn (inLane b k (L.Cut g (have + r) x) Fresh 0) t) tp m) (cut-same b k t o d p e fore) (rw q v),
+        (omega (arith, y .0), i .0, rw q (i .1)),
+      )
 
   -- which is whole
   module _ (h : Header) (long : 6 - have ≤ length tp - at) (read : readOf (headerIn (number word (take (6 - have) (drop at tp)))) ≡ R.Whole h)
