@@ -52,3 +52,4 @@ pub mod Worded
 pub mod Swiftly
 pub mod Laning
 pub mod LaneAhead
+pub mod LaneOut
