@@ -51,3 +51,4 @@ pub mod WordTests
 pub mod Worded
 pub mod Swiftly
 pub mod LaneAhead
+pub mod LaneOut
