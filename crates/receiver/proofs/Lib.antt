@@ -53,3 +53,4 @@ pub mod Swiftly
 pub mod Laning
 pub mod LaneAhead
 pub mod LaneOut
+pub mod Laned

@@ -2,7 +2,8 @@
 -- Assumes nothing.
 use native.Mathlib.Omega.{arith}
 use lib.ListN.{length}
-use Rattle.receiver.proofs.LaneOut.{cut-ends, cut-enters, cut-fill, fits-of, least-of, read-of}
+use Rattle.receiver.proofs.LaneAhead.{fits-of}
+use Rattle.receiver.proofs.LaneOut.{cut-ends, cut-enters, cut-fill, least-of, read-of}
 use borrow.Author.Needs.{needs}
 use Rattle.receiver.proofs.lane.from_cut.Statement.{statement}
 use Rattle.receiver.proofs.lane.from_cut.Tie as tie
@@ -67,7 +68,7 @@ returns-6 : tie.Need-returns-6
 returns-6 c =
     let s = c .before .before .before .before .before .before .before .before .before .before .before .before .before .before .before in
     let a = s .args in
-    let e = read-of _ _ _ (c .before .before .before .before .before .before .before .before .h .given .0 .0) (c .before .before .before .before .before .before .before .before .before .before .before .gather2 .ensures) (c .before .before .before .before .before .before .before .before .before .before .read-header .ensures) (c .before .before .before .before .before .before .before .before .h .given .1) in
+    let e = read-of (a .have) (a .word) (a .at) (a .tp .now) _ _ (c .before .before .before .before .before .before .before .before .h .given .0 .0) (c .before .before .before .before .before .before .before .before .before .before .before .gather2 .ensures) (c .before .before .before .before .before .before .before .before .before .before .read-header .ensures) (c .before .before .before .before .before .before .before .before .h .given .1) in
     let l = least-of _ _ _ _ (c .before .before .before .before .before .before .least .ensures) (c .before .before .before .before .before .if3 .left) in
     cut-fill (a .began) (a .have) (a .word) (a .n) (a .at) (a .tp .now) (a .room .now) (s .pre .1, s .pre .2, s .pre .3) (λ i. omega (arith, c .before .before .before .before .before .before .before .before .before .before .before .before .before .before .shared-slice-known .given i)) (omega (arith, s .pre .0)) (c .before .before .before .before .before .before .before .before .h .given .0 .0) (c .before .before .before .before .before .before .before .before .before .before .before .before .if1 .left) e l (c .before .before .before .if4 .taken) (c .before .if5 .left)
 
@@ -90,7 +91,7 @@ returns-7 : tie.Need-returns-7
 returns-7 c =
     let s = c .before .before .before .before .before .before .before .before .before .before .before .before .before .before .before .before .before .before in
     let a = s .args in
-    let e = read-of _ _ _ (c .before .before .before .before .before .before .before .before .before .before .before .h .given .0 .0) (c .before .before .before .before .before .before .before .before .before .before .before .before .before .before .gather2 .ensures) (c .before .before .before .before .before .before .before .before .before .before .before .before .before .read-header .ensures) (c .before .before .before .before .before .before .before .before .before .before .before .h .given .1) in
+    let e = read-of (a .have) (a .word) (a .at) (a .tp .now) _ _ (c .before .before .before .before .before .before .before .before .before .before .before .h .given .0 .0) (c .before .before .before .before .before .before .before .before .before .before .before .before .before .before .gather2 .ensures) (c .before .before .before .before .before .before .before .before .before .before .before .before .before .read-header .ensures) (c .before .before .before .before .before .before .before .before .before .before .before .h .given .1) in
     let l = least-of _ _ _ _ (c .before .before .before .before .before .before .before .before .before .least .ensures) (c .before .before .before .before .before .before .before .before .if3 .left) in
     cut-enters (a .began) (a .have) (a .word) (a .n) (a .at) (a .tp .now) (a .room .now) (s .pre .1, s .pre .2, s .pre .3) (λ i. omega (arith, c .before .before .before .before .before .before .before .before .before .before .before .before .before .before .before .before .before .shared-slice-known .given i)) (omega (arith, s .pre .0)) (c .before .before .before .before .before .before .before .before .before .before .before .h .given .0 .0) (c .before .before .before .before .before .before .before .before .before .before .before .before .before .before .before .if1 .left) e l (c .before .before .entered .result) _ (c .before .before .entered .ensures)
 

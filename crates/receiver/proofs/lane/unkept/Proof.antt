@@ -1,42 +1,40 @@
+-- `receiver::lane::unkept` meets its contract: with nothing kept, by the phase.
+-- Assumes nothing.
+use Rattle.receiver.proofs.Laned.{unkept-cut, unkept-idle}
 use borrow.Author.Needs.{needs}
 use Rattle.receiver.proofs.lane.unkept.Statement.{statement}
 use Rattle.receiver.proofs.lane.unkept.Tie as tie
 use Rattle.receiver.proofs.lane.unkept.Reads as reads
 use Rattle.receiver.proofs.lane.unkept.Lts as lts
 
--- src/lane.rt:78:24
 enum-told : tie.Need-enum-told
 enum-told c = search needs
 
--- src/lane.rt:79:23
 enum-known-phase : tie.Need-enum-known-phase
 enum-known-phase c = search needs
 
--- src/lane.rt:81:17
 returns : tie.Need-returns
-returns c = ?
+returns c =
+    let s = c .before .before .before .before in
+    unkept-idle (s .args .cap) (s .args .phase) (s .args .began) _ _ (c .before .before .phase .given .1) (c .if1 .taken) (s .pre)
 
--- src/lane.rt:85:29
 enum-told-2 : tie.Need-enum-told-2
 enum-told-2 c = search needs
 
--- src/lane.rt:86:47
 enum-told-3 : tie.Need-enum-told-3
 enum-told-3 c = search needs
 
--- src/lane.rt:73:1
 returns-2 : tie.Need-returns-2
 returns-2 c = search needs
 
--- src/lane.rt:73:1
 returns-3 : tie.Need-returns-3
-returns-3 c = ?
+returns-3 c =
+    let s = c .before .before .before .before in
+    unkept-cut (s .args .cap) (s .args .phase) (s .args .began) _ _ (c .before .before .phase .given .1) (c .if1 .left) (s .pre)
 
--- src/lane.rt:73:1
 returns-4 : tie.Need-returns-4
 returns-4 c = search needs
 
--- src/lane.rt:73:1
 returns-5 : tie.Need-returns-5
 returns-5 c = search needs
 
