@@ -63,6 +63,9 @@ module _ (cap : ℕ) (p : Phase) (g : Place) where
         (ap (λ (x : Phase). walkAt 0 x g (Of c r q len)) v ∙ ap (walkAt 0 (Body (completeOf c (len + left) (h .flips)) left) g) k,
         (l, kept-roomy, subst (λ (i : ℕ). 1 ≤ i) a (t .3), subst (λ (i : ℕ). i ≤ 6) a (t .4)))
 
+pub walk-is : (v : Walk) (k : Kept) → v .at ≡ 0 → v .kept ≡ k → v ≡ walkAt 0 (v .phase) (v .began) k
+walk-is v k z e = ap (λ (i : ℕ). walkAt i (v .phase) (v .began) (v .kept)) z ∙ ap (walkAt 0 (v .phase) (v .began)) e
+
 -- the receiver whose walk a lane stands for
 module _ (r : Receiver) (w : Walk) (s : r .stage ≡ Fresh) (e : r .walk ≡ w) where
   stands : (l : Lane) → StandsFor (r .limit) l w → StandsIn l r
