@@ -57,11 +57,12 @@ module _ (cap : ℕ) (p : Phase) (g : Place) where
     kept-busy t a b z y =
         let l : 0 < left = subst Settled e s in
         let u : h ≡ completeOf c (len + left) (h .flips) =
-            complete-is h (len + left) (t .2) z ∙ ap (λ (i : ℕ). completeOf i (len + left) (h .flips)) a in
+        complete-is h (len + left) (t .2) z ∙ ap (λ (i : ℕ). completeOf i (len + left) (h .flips)) a in
         let k : _≡_ {A = Kept} (Of c r q len) (Of c (h .flips) g len) = ap (λ (i : ℕ). Of c i q len) (sym b) ∙ ap (λ (x : Place). Of c (h .flips) x len) (sym y) in
-        let v : p ≡ Body (completeOf c (len + left) (h .flips)) left = e ∙ ap (λ (x : Header). Body x left) u in
-        (ap (λ (x : Phase). walkAt 0 x g (Of c r q len)) v ∙ ap (walkAt 0 (Body (completeOf c (len + left) (h .flips)) left) g) k,
-        (l, kept-roomy, subst (λ (i : ℕ). 1 ≤ i) a (t .3), subst (λ (i : ℕ). i ≤ 6) a (t .4)))
+        let v : p ≡ Body (completeOf c (len + left) (h .flips)) left = e ∙ ap (λ (x : Header). Body x left) u in (
+          ap (λ (x : Phase). walkAt 0 x g (Of c r q len)) v ∙ ap (walkAt 0 (Body (completeOf c (len + left) (h .flips)) left) g) k,
+          (l, kept-roomy, subst (λ (i : ℕ). 1 ≤ i) a (t .3), subst (λ (i : ℕ). i ≤ 6) a (t .4)),
+        )
 
 pub walk-is : (v : Walk) (k : Kept) → v .at ≡ 0 → v .kept ≡ k → v ≡ walkAt 0 (v .phase) (v .began) k
 walk-is v k z e = ap (λ (i : ℕ). walkAt i (v .phase) (v .began) (v .kept)) z ∙ ap (walkAt 0 (v .phase) (v .began)) e
@@ -69,11 +70,12 @@ walk-is v k z e = ap (λ (i : ℕ). walkAt i (v .phase) (v .began) (v .kept)) z 
 -- the receiver whose walk a lane stands for
 module _ (r : Receiver) (w : Walk) (s : r .stage ≡ Fresh) (e : r .walk ≡ w) where
   stands : (l : Lane) → StandsFor (r .limit) l w → StandsIn l r
-  stands l f =
-      (ap (λ (x : Stage). record { size = r .size; stream = r .stream; limit = r .limit; count = r .count; stage = x; walk = r .walk }) s
-      ∙ ap (λ (x : Walk). record { size = r .size; stream = r .stream; limit = r .limit; count = r .count; stage = Fresh; walk = x })
-      (e ∙ f .0 ∙ ap (λ (g : Place). walkIn g l 0) (ap (λ (x : Walk). x .began) (sym e))),
-      f .1)
+  stands l f = (
+    ap (λ (x : Stage). record { size = r .size; stream = r .stream; limit = r .limit; count = r .count; stage = x; walk = r .walk }) s
+        ∙ ap (λ (x : Walk). record { size = r .size; stream = r .stream; limit = r .limit; count = r .count; stage = Fresh; walk = x })
+        (e ∙ f .0 ∙ ap (λ (g : Place). walkIn g l 0) (ap (λ (x : Walk). x .began) (sym e))),
+    f .1,
+  )
 
   pub laned : (l : Lane) → StandsAs (r .limit) l w → LanedAs l r
   laned L.Other f = omega arith
