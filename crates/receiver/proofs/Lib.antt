@@ -50,3 +50,7 @@ pub mod SinceLoss
 pub mod WordTests
 pub mod Worded
 pub mod Swiftly
+pub mod Laning
+pub mod LaneAhead
+pub mod LaneOut
+pub mod Laned

@@ -17,11 +17,14 @@ pub mod Turns
 pub mod Outset
 pub mod Pieces
 pub mod Turn
+-- a receiver's lanes: what loops over TPs carry
+pub mod Lanes
 -- a receiver as words, and back
 pub mod Words
 -- what the private functions promise one another, and nobody has to believe
 pub mod InWalk
 pub mod InStride
 pub mod InSwift
+pub mod InLanes
 pub mod InOutset
 pub mod InStages

@@ -18,10 +18,10 @@ use crate::Receiver;
 use crate::Stage;
 use crate::Stamp;
 use crate::Step;
+use crate::judge;
 use crate::stages;
 use crate::stages::Stamps;
 use crate::stamps;
-use crate::walk::Kept;
 use crate::walk::Phase;
 use wire::TpWord;
 
@@ -50,13 +50,16 @@ fn tp_word(tp: &[u8]) -> u32
 fn drop_all(r: Receiver, stamp: Stamp, number: u8) -> Begun
     ensures { λ q. ⌜ q ≡ B.Gives (stepOf r Fresh 0 Lost Empty (F.Notice number) (startOf stamp)) ⌝ }
 {
+    let w = r.walk;
+    let kept = w.kept;
+    let none = judge::emptied(kept);
     let find = Find::Notice(number);
     Begun::Gives(stages::step_to(
         r,
         Stage::Fresh,
         0,
         Phase::Lost,
-        Kept::Empty,
+        none,
         find,
         stamps::start(stamp),
     ))

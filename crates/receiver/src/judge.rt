@@ -52,7 +52,7 @@ fn more(at: usize, phase: Phase, began: Place, kept: Kept) -> Turn
 }
 
 // Nothing kept, assigned over what was: behind a new `Kept::Empty` stand bytes of earlier turns, which the compiler then carries along.
-fn emptied(kept: Kept) -> Kept
+pub fn emptied(kept: Kept) -> Kept
     ensures { λ r. ⌜ r ≡ Empty ⌝ }
 {
     let mut none = kept;

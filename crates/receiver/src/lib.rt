@@ -9,6 +9,7 @@ ghost use Rattle.receiver.specs.Turn.{goesOn, TurnedAs};
 mod entry;
 mod judge;
 mod kind;
+pub mod lane;
 mod low;
 mod outset;
 mod pieces;

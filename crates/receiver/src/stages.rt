@@ -23,6 +23,7 @@ use crate::Stamp;
 use crate::Step;
 use crate::entry;
 use crate::entry::Begun;
+use crate::judge;
 use crate::low;
 use crate::low::Lows;
 use crate::outset;
@@ -195,8 +196,11 @@ pub fn tell(r: Receiver, stamp: Stamp, a: Answer) -> Step
 fn drop_rest(r: Receiver, len: usize, number: u8, place: Place) -> Course
     ensures { λ q. ⌜ q ≡ C.Gives (stepOf r Plain len Lost Empty (F.Notice number) place) ⌝ }
 {
+    let w = r.walk;
+    let kept = w.kept;
+    let none = judge::emptied(kept);
     let find = Find::Notice(number);
-    Course::Gives(step_to(r, Stage::Plain, len, Phase::Lost, Kept::Empty, find, place))
+    Course::Gives(step_to(r, Stage::Plain, len, Phase::Lost, none, find, place))
 }
 
 // Into the ordinary bytes, of which n stand before the first EP that begins here.
@@ -221,7 +225,8 @@ fn set_about(r: Receiver, at: usize, n: usize, stamp: Stamp, tp: &[u8]) -> Cours
             let there = outset::upon(start, tp.len());
             let find = Find::Notice(number);
             let place = outset::lost_at(number, stamp, began);
-            Course::Gives(step_to(r, Stage::Plain, start, there, Kept::Empty, find, place))
+            let none = judge::emptied(kept);
+            Course::Gives(step_to(r, Stage::Plain, start, there, none, find, place))
         }
     }
 }

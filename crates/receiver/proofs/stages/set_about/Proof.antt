@@ -24,6 +24,9 @@ upon-requires c κs = search needs
 lost-at-requires : tie.Need-lost-at-requires
 lost-at-requires c κs = search needs
 
+emptied-requires : tie.Need-emptied-requires
+emptied-requires c κs = search needs
+
 step-to-requires : tie.Need-step-to-requires
 step-to-requires c κs = search needs
 
@@ -35,9 +38,9 @@ returns c =
 
 returns-2 : tie.Need-returns-2
 returns-2 c =
-    let s = c .before .before .before .before .before .before .before .before .before .before in
+    let s = c .before .before .before .before .before .before .before .before .before .before .before in
     let a = s .args in
-    rw (c .step-to .ensures, c .before .lost-at .ensures) (set-loses (a .r) (a .stamp) (a .at) (a .n) (a .tp .now) _ (s .pre .1) _ _ (s .pre .0) (c .before .before .upon .ensures) (c .before .before .before .before .before .before .set-out .ensures) (c .before .before .before .before .number .given .1))
+    rw (c .step-to .ensures, c .before .emptied .ensures, c .before .before .lost-at .ensures) (set-loses (a .r) (a .stamp) (a .at) (a .n) (a .tp .now) _ (s .pre .1) _ _ (s .pre .0) (c .before .before .before .upon .ensures) (c .before .before .before .before .before .before .before .set-out .ensures) (c .before .before .before .before .before .number .given .1))
 
 pub set-about-spec : {M : Type 1} → statement M
 set-about-spec =
@@ -49,6 +52,7 @@ set-about-spec =
     add-start
     upon-requires
     lost-at-requires
+    emptied-requires
     step-to-requires
     returns
     returns-2)
