@@ -2,7 +2,7 @@
 -- say. Assumes nothing.
 use mathlib.Core.Path.{ap, refl, subst, sym, _∙_, _≡_}
 use mathlib.Core.Bool.{Bool, cond, false, true, _&&_}
-use mathlib.Core.Option.{none, some}
+use mathlib.Core.Option.{Option, none, some}
 use mathlib.Core.List.{List}
 use Prim.Native.Nat.{ℕ, _+_, _-_, _/_, _%_, _^_, _<_, _≤_, min}
 use native.Mathlib.Omega.{arith}
@@ -70,7 +70,7 @@ pub header-stands : (tp : List ℕ) (at w : ℕ) (r : Read) → 6 ≤ length tp 
 unfolding intactIn
 header-stands tp at w Beyond six q e = omega arith
 header-stands tp at w (Whole h) six q e =
-    record { six = six; read = ap headerIn (sym q) ∙ read-intact-is w (Whole h) h e refl; intact = ap flipsIn e ∙ unflipped }
+    (record { six = six; read = ap headerIn (sym q) ∙ read-intact-is w (Whole h) h e refl }, ap flipsIn e ∙ unflipped)
   where
     flipsIn : Read → ℕ
     flipsIn Beyond = 0
@@ -83,15 +83,27 @@ header-stands tp at w (Whole h) six q e =
     unflipped : flipsIn (readOf (intactIn w)) ≡ 0
     unflipped = none-flipped (eqb (syndrome (w / 2 ^ 24 % 2 ^ 24)) 0 && eqb (syndrome (w % 2 ^ 24)) 0) (high (w / 2 ^ 24 % 2 ^ 24)) (high (w % 2 ^ 24))
 
+-- a header that can be read
+pub read-stands : (tp : List ℕ) (at : ℕ) (r : Read) (h : Header) → 6 ≤ length tp - at → r ≡ readOf (headerIn (number 0 (take 6 (drop at tp)))) → r ≡ Whole h → Stands tp at h
+read-stands tp at r h six e f = record { six = six; read = some-of (headerIn (number 0 (take 6 (drop at tp)))) (sym e ∙ f) }
+  where
+    some-of : (o : Option Header) → readOf o ≡ Whole h → o ≡ some h
+    some-of none e = cc
+    some-of (some g) e = cc
+
 -- what stands there, by the answer
 module _ (tp : List ℕ) (at : ℕ) (r : Read) (h : Header) where
   pub stands-of : HeaderAt tp at r → r ≡ Whole h → Stands tp at h
-  stands-of f e = subst (HeaderAt tp at) e f
+  stands-of f e = subst (HeaderAt tp at) e f .0
+
+  pub intact-of : HeaderAt tp at r → r ≡ Whole h → h .flips ≡ 0
+  intact-of f e = subst (HeaderAt tp at) e f .1
 
   pub fill-of : FillAt tp at r → r ≡ Whole h → EpAt Fill tp at h × (6 + h .size ≤ length tp - at)
   fill-of f e = subst (FillAt tp at) e f
 
-  pub middle-of : (c most : ℕ) → MiddleAt tp at c most r → r ≡ Whole h → EpAt Middle tp at h × (h .content ≡ c) × (h .size ≤ most) × (6 + h .size ≤ length tp - at)
+  pub middle-of : (c most : ℕ) → MiddleAt tp at c most r → r ≡ Whole h
+      → EpAt Middle tp at h × (h .content ≡ c) × (h .size ≤ most) × (6 + h .size ≤ length tp - at) × (h .flips ≡ 0)
   middle-of c most f e = subst (MiddleAt tp at c most) e f
 
   pub complete-of : (most : ℕ) → CompleteAt tp at most r → r ≡ Whole h → EpAt Complete tp at h × (h .size ≤ most)

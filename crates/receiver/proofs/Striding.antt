@@ -128,14 +128,14 @@ module _ (tp : List ℕ) where
         nowhere : Place
         nowhere = placeAt (record { number = 0; byte = 0 }) 0
 
-    pub middle-joins : (bytes : Bytes tp) (m m′ : List ℕ) → length m ≡ cap → (at n b l : ℕ) (h : Header) → EpAt Middle tp at h → h .content ≡ c → n ≤ cap → h .size ≤ cap - n
+    pub middle-joins : (bytes : Bytes tp) (m m′ : List ℕ) → length m ≡ cap → (at n b l : ℕ) (h : Header) → EpAt Middle tp at h → h .flips ≡ 0 → h .content ≡ c → n ≤ cap → h .size ≤ cap - n
         → 6 + h .size ≤ length tp - at → b ≡ at + 6 + h .size → l ≡ n + h .size → m′ ≡ paste m n (drop (at + 6) tp) (h .size) → Joins cap tp c at n m b l m′
-    middle-joins bytes m m′ full at n b l h s same fits most long q z put =
+    middle-joins bytes m m′ full at n b l h s intact same fits most long q z put =
         record { on = omega arith; within = omega arith; roomy = omega arith; same = λ t g e p u. on t g e p u }
       where
         on : (t : Stamp) (g : Place) (e : ℕ) (p : Place) → e ≤ 4294967295 → pullOf cap t (between b g (Of c e p l)) tp m′ ≡ pullOf cap t (between at g (Of c e p n)) tp m
         on t g e p u =
-            let f = ep-carries cap t tp m full bytes at g (Of c e p n) h (s .stands) (omega arith) (Of c e p n) (middle-opened (at + 6) h (placeAt t at) cap c e p n (s .kind) same (s .stands .intact) u most) in
+            let f = ep-carries cap t tp m full bytes at g (Of c e p n) h (s .stands) (omega arith) (Of c e p n) (middle-opened (at + 6) h (placeAt t at) cap c e p n (s .kind) same intact u most) in
             let k : min (h .size) (length tp - (at + 6)) ≡ h .size = omega arith in
             let o : On cap t (between at g (Of c e p n)) tp m (between b (placeAt t at) (Of c e p (n + h .size))) (paste m n (drop (at + 6) tp) (h .size)) =
             whole-on cap t tp (between at g (Of c e p n)) (at + 6) b h (placeAt t at) (Of c e p n) m _ (s .kind) (λ at g k. refl) (omega arith) (omega arith) (rw k at f) in

@@ -29,15 +29,15 @@ use Rattle.receiver.specs.InWalk.{Ends}
 abbrev pub between : ℕ → Place → Kept → Walk
 between at g k = walkAt at (Head 0 0) g k
 
--- six bytes of two intact words stand there, with this header
+-- six bytes stand there, with this header
 pub record Stands (tp : List ℕ) (at : ℕ) (h : Header) : Type 0 where
   pub six : 6 ≤ length tp - at
   pub read : headerIn (number 0 (take 6 (drop at tp))) ≡ some h
-  pub intact : h .flips ≡ 0
 
+-- of two intact words
 abbrev pub HeaderAt : List ℕ → ℕ → Read → Type 0
 HeaderAt tp at Beyond = 0 ≤ 0
-HeaderAt tp at (Whole h) = Stands tp at h
+HeaderAt tp at (Whole h) = Stands tp at h × (h .flips ≡ 0)
 
 -- an EP of this kind stands there
 pub record EpAt (d : Kind) (tp : List ℕ) (at : ℕ) (h : Header) : Type 0 where
@@ -52,7 +52,7 @@ FillAt tp at (Whole h) = EpAt Fill tp at h × (6 + h .size ≤ length tp - at)
 -- a middle of this content and of at most so many data, whole
 abbrev pub MiddleAt : List ℕ → ℕ → ℕ → ℕ → Read → Type 0
 MiddleAt tp at c most Beyond = 0 ≤ 0
-MiddleAt tp at c most (Whole h) = EpAt Middle tp at h × (h .content ≡ c) × (h .size ≤ most) × (6 + h .size ≤ length tp - at)
+MiddleAt tp at c most (Whole h) = EpAt Middle tp at h × (h .content ≡ c) × (h .size ≤ most) × (6 + h .size ≤ length tp - at) × (h .flips ≡ 0)
 
 -- a complete EP of at most so many data
 abbrev pub CompleteAt : List ℕ → ℕ → ℕ → Read → Type 0

@@ -2,10 +2,8 @@
 // no lane covers is left to a call by value.
 ghost use mathlib.Core.Path.{_≡_};
 ghost use mathlib.Core.Bool.{true};
-ghost use Prim.Native.Nat.{_+_, _-_, _≤_, _<_, _^_};
-ghost use lib.ListN.{length, take, drop};
-ghost use Rattle.digits.specs.Digits.{number};
-ghost use Rattle.wire.specs.Reading.{headerIn, readOf};
+ghost use Prim.Native.Nat.{_+_, _≤_, _<_, _^_};
+ghost use lib.ListN.{length};
 ghost use Rattle.receiver.specs.declared.lane.Lane.the-variants as L;
 ghost use Rattle.receiver.specs.declared.walk.Kept.the-variants.{Empty, Of};
 ghost use Rattle.receiver.specs.Lows.{lowsOf};
@@ -101,22 +99,6 @@ fn is_same(a: Place, b: Place) -> bool
     a.at == b.at
 }
 
-// Whether a header is that of a complete EP of at most so many data.
-fn fits(h: Header, most: usize) -> bool
-    ensures { λ r. ⌜ FitsIf r h most ⌝ }
-{
-    if h.fragment != 0 {
-        return false;
-    }
-    if h.content < 1 {
-        return false;
-    }
-    if 6 < h.content {
-        return false;
-    }
-    h.size <= most
-}
-
 // With so many bytes kept of a packet that began there: in the data of a complete EP.
 fn kept_of(
     phase: Phase,
@@ -133,7 +115,7 @@ fn kept_of(
     let Phase::Body { header, left } = phase else {
         return Lane::Other;
     };
-    if !fits(header, cap) {
+    if !stride::fits(header, cap) {
         return Lane::Other;
     }
     let flips = header.flips;
@@ -288,18 +270,6 @@ pub fn lows(tp: &[u8], at: usize) -> Lows
     low::walk(tp, at)
 }
 
-// The header of six bytes; two intact words leave at once.
-fn header_at(tp: &[u8], at: usize) -> Read
-    requires { ⌜ at + 6 ≤ length (now tp) ⌝ }
-    ensures { λ r. ⌜ r ≡ readOf (headerIn (number 0 (take 6 (drop at (now (tp .entry)))))) ⌝ }
-{
-    let word = walk::six(tp, at);
-    let Read::Whole(h) = wire::read_intact(word) else {
-        return wire::read_header(word);
-    };
-    Read::Whole(h)
-}
-
 // The data of a complete EP that began there, up to their end or the TP's, into the room.
 fn entered(h: Header, began: Place, from: usize, tp: &[u8], room: &mut [u8]) -> Met
     requires { ⌜ (from ≤ length (now tp)) × FitsIf true h (length (now room)) ⌝ }
@@ -348,10 +318,10 @@ pub fn look_ahead(start: usize, stamp: Stamp, tp: &[u8], room: &mut [u8]) -> Met
             word: walk::gather(tp, from, rest, 0, 0),
         });
     }
-    let Read::Whole(h) = header_at(tp, from) else {
+    let Read::Whole(h) = stride::read_at(tp, from) else {
         return Met::Drops(12);
     };
-    if fits(h, room.len()) {
+    if stride::fits(h, room.len()) {
         return entered(h, stamps::of(stamp, from), from + 6, tp, room);
     }
     Met::Other
@@ -394,7 +364,7 @@ fn from_cut(
         }
         return Met::Reads(at + missing + h.size);
     }
-    if fits(h, room.len()) {
+    if stride::fits(h, room.len()) {
         return entered(h, began, at + missing, tp, room);
     }
     Met::Other

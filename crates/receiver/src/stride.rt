@@ -1,14 +1,18 @@
 // EPs taken in strides, where nothing is to be judged. Between two EPs, with two intact words ahead: fill that is whole, with
-// nothing kept; a whole middle of the packet that is kept; a complete EP that the room has place for. All else is for turns.
-ghost use Prim.Native.Nat.{_-_, _≤_, min};
+// nothing kept; a whole middle of the packet that is kept. With any header that can be read: a complete EP that the room has
+// place for. All else is for turns.
+ghost use Prim.Native.Nat.{_+_, _-_, _≤_, min};
 ghost use mathlib.Core.Path.{_≡_};
-ghost use lib.ListN.{length, drop};
+ghost use lib.ListN.{length, take, drop};
+ghost use Rattle.digits.specs.Digits.{number};
+ghost use Rattle.wire.specs.Reading.{headerIn, readOf};
 ghost use Rattle.receiver.specs.declared.kind.Kind.the-variants.{Complete};
 ghost use Rattle.receiver.specs.declared.walk.Kept.the-variants.{Empty, Of};
 ghost use Rattle.receiver.specs.Kind.{kindOf};
 ghost use Rattle.receiver.specs.State.{Sound};
 ghost use Rattle.receiver.specs.Turns.{bodyTurn};
 ghost use Rattle.receiver.specs.InWalk.{pasted};
+ghost use Rattle.receiver.specs.InLanes.{FitsIf};
 ghost use Rattle.receiver.specs.InStride.{HeaderAt, FillAt, MiddleAt, CompleteAt, Skips, Joins, Strides, between};
 use crate::Place;
 use crate::Stamp;
@@ -131,6 +135,34 @@ fn past_middles(tp: &[u8], start: usize, content: u8, first: usize, room: &mut [
     out
 }
 
+// The header of six bytes; two intact words leave at once.
+pub fn read_at(tp: &[u8], at: usize) -> Read
+    requires { ⌜ at + 6 ≤ length (now tp) ⌝ }
+    ensures { λ r. ⌜ r ≡ readOf (headerIn (number 0 (take 6 (drop at (now (tp .entry)))))) ⌝ }
+{
+    let word = walk::six(tp, at);
+    let Read::Whole(h) = wire::read_intact(word) else {
+        return wire::read_header(word);
+    };
+    Read::Whole(h)
+}
+
+// Whether a header is that of a complete EP of at most so many data.
+pub fn fits(h: Header, most: usize) -> bool
+    ensures { λ r. ⌜ FitsIf r h most ⌝ }
+{
+    if h.fragment != 0 {
+        return false;
+    }
+    if h.content < 1 {
+        return false;
+    }
+    if 6 < h.content {
+        return false;
+    }
+    h.size <= most
+}
+
 // The complete EP at `at`, of at most so many data. Its first byte ends in the bits 00.
 pub fn complete_at(tp: &[u8], at: usize, most: usize) -> Read
     requires { ⌜ at ≤ length (now tp) ⌝ }
@@ -203,13 +235,30 @@ fn taken(tp: &[u8], from: usize, header: Header, began: Place, room: &mut [u8]) 
     )
 }
 
+// The complete EP at `at`, of at most so many data, also by words that are not intact.
+fn readable_at(tp: &[u8], at: usize, most: usize) -> Read
+    requires { ⌜ at ≤ length (now tp) ⌝ }
+    ensures { λ r. ⌜ CompleteAt (now (tp .entry)) at most r ⌝ }
+{
+    if tp.len() - at < 6 {
+        return Read::Beyond;
+    }
+    let Read::Whole(h) = read_at(tp, at) else {
+        return Read::Beyond;
+    };
+    if fits(h, most) {
+        return Read::Whole(h);
+    }
+    Read::Beyond
+}
+
 // With nothing kept: past fill, and the complete EP behind it.
 fn free(start: usize, began: Place, stamp: Stamp, tp: &[u8], room: &mut [u8]) -> Turn
     requires { ⌜ start ≤ length (now tp) ⌝ }
     ensures { λ r. ⌜ Strides (length (now (room .entry))) stamp (between start began Empty) (now (tp .entry)) (now (room .entry)) r (now (room .exit)) ⌝ }
 {
     let at = past_fill(tp, start);
-    let Read::Whole(h) = complete_at(tp, at, room.len()) else {
+    let Read::Whole(h) = readable_at(tp, at, room.len()) else {
         return Turn::More(Walk {
             at,
             phase: Phase::Head { have: 0, word: 0 },

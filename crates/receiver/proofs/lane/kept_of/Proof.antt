@@ -9,7 +9,7 @@ use Rattle.receiver.proofs.lane.kept_of.Statement.{statement}
 use Rattle.receiver.proofs.lane.kept_of.Tie as tie
 use Rattle.receiver.proofs.lane.kept_of.Reads as reads
 use Rattle.receiver.proofs.lane.kept_of.Lts as lts
-use Rattle.receiver.proofs.lane.fits.Reads as fits-reads
+use Rattle.receiver.proofs.stride.fits.Reads as fits-reads
 use Rattle.receiver.proofs.lane.is_same.Reads as is-same-reads
 
 enum-known-phase : tie.Need-enum-known-phase

@@ -34,8 +34,8 @@ returns-3 c =
     let a = c .before .before .before .before .before .before .before .before .args in
     ahead-cut (a .start) _ (a .stamp) (a .tp .now) (a .room .now) (λ i. omega (arith, c .before .before .before .before .before .before .before .shared-slice-known .given i)) (c .before .before .before .before .past-fill .ensures) _ refl (omega (arith, c .before .before .if3 .left)) (c .before .before .before .if2 .taken) _ (c .before .of .ensures) _ (c .gather .ensures)
 
-header-at-requires : tie.Need-header-at-requires
-header-at-requires c κs = omega (arith, c .if2 .left)
+read-at-requires : tie.Need-read-at-requires
+read-at-requires c κs = omega (arith, c .if2 .left)
 
 enum-known-h : tie.Need-enum-known-h
 enum-known-h c = search needs
@@ -46,7 +46,7 @@ enum-told c = search needs
 returns-4 : tie.Need-returns-4
 returns-4 c =
     let a = c .before .before .before .before .before .before .before .before .args in
-    ahead-beyond (a .start) _ (a .stamp) (a .tp .now) (a .room .now) (λ i. omega (arith, c .before .before .before .before .before .before .before .shared-slice-known .given i)) (c .before .before .before .before .past-fill .ensures) (c .before .before .before .if2 .left) _ (c .before .before .header-at .ensures) (c .enum-told .given .1)
+    ahead-beyond (a .start) _ (a .stamp) (a .tp .now) (a .room .now) (λ i. omega (arith, c .before .before .before .before .before .before .before .shared-slice-known .given i)) (c .before .before .before .before .past-fill .ensures) (c .before .before .before .if2 .left) _ (c .before .before .read-at .ensures) (c .enum-told .given .1)
 
 fits-requires : tie.Need-fits-requires
 fits-requires c κs = search needs
@@ -66,7 +66,7 @@ same-length c = search needs
 returns-5 : tie.Need-returns-5
 returns-5 c =
     let a = c .before .before .before .before .before .before .before .before .before .before .before .before .before .before .before .before .args in
-    ahead-whole (a .start) _ (a .stamp) (a .tp .now) (a .room .now) (λ i. omega (arith, c .before .before .before .before .before .before .before .before .before .before .before .before .before .before .before .shared-slice-known .given i)) (c .before .before .before .before .before .before .before .before .before .before .before .before .past-fill .ensures) (c .before .before .before .before .before .before .before .before .before .before .before .if2 .left) _ (c .before .before .before .before .before .before .before .before .before .before .header-at .ensures) _ (c .before .before .before .before .before .before .before .before .h .given .1) _ (c .before .before .before .before .of2 .ensures) (c .before .before .entered .result) _ (c .before .before .entered .ensures)
+    ahead-whole (a .start) _ (a .stamp) (a .tp .now) (a .room .now) (λ i. omega (arith, c .before .before .before .before .before .before .before .before .before .before .before .before .before .before .before .shared-slice-known .given i)) (c .before .before .before .before .before .before .before .before .before .before .before .before .past-fill .ensures) (c .before .before .before .before .before .before .before .before .before .before .before .if2 .left) _ (c .before .before .before .before .before .before .before .before .before .before .read-at .ensures) _ (c .before .before .before .before .before .before .before .before .h .given .1) _ (c .before .before .before .before .of2 .ensures) (c .before .before .entered .result) _ (c .before .before .entered .ensures)
 
 returns-6 : tie.Need-returns-6
 returns-6 c = search needs
@@ -82,7 +82,7 @@ look-ahead-spec =
     of-requires
     gather-requires
     returns-3
-    header-at-requires
+    read-at-requires
     enum-known-h
     enum-told
     returns-4

@@ -12,8 +12,8 @@ use Rattle.receiver.proofs.stride.free.Tie as tie
 past-fill-requires : tie.Need-past-fill-requires
 past-fill-requires c κs = search needs
 
-complete-at-requires : tie.Need-complete-at-requires
-complete-at-requires c κs = search needs
+readable-at-requires : tie.Need-readable-at-requires
+readable-at-requires c κs = search needs
 
 enum-known-h : tie.Need-enum-known-h
 enum-known-h c = search needs
@@ -33,7 +33,7 @@ of-requires c κs = search needs
 
 taken-requires : tie.Need-taken-requires
 taken-requires c κs =
-    let f = complete-of _ _ _ _ _ (c .before .before .before .before .before .complete-at .ensures) (c .before .before .before .h .given .1) in (omega (arith, f .0 .stands .six), f .1, f .0 .kind)
+    let f = complete-of _ _ _ _ _ (c .before .before .before .before .before .readable-at .ensures) (c .before .before .before .h .given .1) in (omega (arith, f .0 .stands .six), f .1, f .0 .kind)
 
 same-length : tie.Need-same-length
 same-length c = search needs
@@ -41,7 +41,7 @@ same-length c = search needs
 returns-2 : tie.Need-returns-2
 returns-2 c =
     let a = c .before .before .before .before .before .before .before .before .before .before .before .before .args in
-    let f = complete-of _ _ _ _ _ (c .before .before .before .before .before .before .before .before .complete-at .ensures) (c .before .before .before .before .before .before .h .given .1) in
+    let f = complete-of _ _ _ _ _ (c .before .before .before .before .before .before .before .before .readable-at .ensures) (c .before .before .before .before .before .before .h .given .1) in
     free-complete (length (a .room .now)) (a .stamp) (a .tp .now) (a .start) _ (a .began) (a .room .now) _ refl (λ i. omega (arith, c .before .before .before .before .before .before .before .before .before .before .before .shared-slice-known .given i)) (c .before .before .before .before .before .before .before .before .before .past-fill .ensures) _ (f .0) (f .1) _ (rw (c .before .before .before .before .of .ensures) at (c .before .before .taken .ensures .0)) (c .before .before .taken .ensures .1)
 
 pub free-spec : {M : Type 1} → statement M
@@ -49,7 +49,7 @@ free-spec =
     tie.close
     (tie.spec
     past-fill-requires
-    complete-at-requires
+    readable-at-requires
     enum-known-h
     enum-told
     returns

@@ -1,7 +1,7 @@
 -- `receiver::stride::middle_at` meets its contract.
 -- Assumes nothing.
 use native.Mathlib.Omega.{arith}
-use Rattle.receiver.proofs.Standing.{middle-kind, stands-of}
+use Rattle.receiver.proofs.Standing.{intact-of, middle-kind, stands-of}
 use borrow.Author.Needs.{needs}
 use Rattle.receiver.proofs.stride.middle_at.Statement.{statement}
 use Rattle.receiver.proofs.stride.middle_at.Tie as tie
@@ -51,7 +51,7 @@ returns-8 c = search needs
 
 returns-9 : tie.Need-returns-9
 returns-9 c =
-    let s = stands-of _ _ _ _ (c .before .before .before .before .before .before .before .before .before .before .before .before .before .header-at .ensures) (c .before .before .before .before .before .before .before .before .before .before .before .h .given .1) in (record { stands = s; kind = middle-kind _ (c .before .before .before .before .before .before .if4 .left) (c .before .before .before .before .if5 .left) }, c .before .before .before .before .before .before .before .before .if3 .left, c .before .before .if6 .left, omega (arith, s .six, c .if7 .left))
+    let s = stands-of _ _ _ _ (c .before .before .before .before .before .before .before .before .before .before .before .before .before .header-at .ensures) (c .before .before .before .before .before .before .before .before .before .before .before .h .given .1) in (record { stands = s; kind = middle-kind _ (c .before .before .before .before .before .before .if4 .left) (c .before .before .before .before .if5 .left) }, c .before .before .before .before .before .before .before .before .if3 .left, c .before .before .if6 .left, omega (arith, s .six, c .if7 .left), intact-of _ _ _ _ (c .before .before .before .before .before .before .before .before .before .before .before .before .before .header-at .ensures) (c .before .before .before .before .before .before .before .before .before .before .before .h .given .1))
 
 pub middle-at-spec : {M : Type 1} → statement M
 middle-at-spec =

@@ -74,7 +74,7 @@ loop-again c =
     let z = l .inv .0 in
     let put = middle-put (a .tp .now) (length (a .room .now)) (a .content) (l .room) _ (l .at + 6) _ (l .len) (omega (arith, f .3)) (omega (arith, f .2)) (c .before .before .before .copy-at .ensures) in
     let n : length (c .before .before .before .copy-at .last .0) ≡ length (a .room .now) = search needs in
-    (n, joins-on (a .tp .now) (length (a .room .now)) (a .content) (a .start) (a .first) (a .room .now) (l .at) (l .len) (l .room) _ _ _ (l .inv .1) (middle-joins (a .tp .now) (length (a .room .now)) (a .content) (λ i. omega (arith, c .before .before .before .before .before .before .before .before .before .before .before .before .before .shared-slice-known .given i)) (l .room) _ z (l .at) (l .len) _ _ _ (f .0) (f .1) r (omega (arith, f .2)) (f .3) refl refl put))
+    (n, joins-on (a .tp .now) (length (a .room .now)) (a .content) (a .start) (a .first) (a .room .now) (l .at) (l .len) (l .room) _ _ _ (l .inv .1) (middle-joins (a .tp .now) (length (a .room .now)) (a .content) (λ i. omega (arith, c .before .before .before .before .before .before .before .before .before .before .before .before .before .shared-slice-known .given i)) (l .room) _ z (l .at) (l .len) _ _ _ (f .0) (f .4) (f .1) r (omega (arith, f .2)) (f .3) refl refl put))
 
 same-length : tie.Need-same-length Inv-loop μ-loop
 same-length c = search needs

@@ -1,11 +1,11 @@
--- `receiver::lane::header_at` meets its contract: two intact words say what any reader of them would.
+-- `receiver::stride::read_at` meets its contract: two intact words say what any reader of them would.
 -- Assumes nothing.
 use mathlib.Core.Path.{_∙_, ap}
 use Rattle.wire.specs.Reading.{headerIn, readOf}
 use Rattle.receiver.proofs.LaneAhead.{intact-header}
 use borrow.Author.Needs.{needs}
-use Rattle.receiver.proofs.lane.header_at.Statement.{statement}
-use Rattle.receiver.proofs.lane.header_at.Tie as tie
+use Rattle.receiver.proofs.stride.read_at.Statement.{statement}
+use Rattle.receiver.proofs.stride.read_at.Tie as tie
 
 six-requires : tie.Need-six-requires
 six-requires c κs = search needs
@@ -28,8 +28,8 @@ returns c = c .read-header .ensures ∙ ap (λ w. readOf (headerIn w)) (c .befor
 returns-2 : tie.Need-returns-2
 returns-2 c = intact-header _ _ _ _ (c .before .before .before .read-intact .ensures) (c .before .h .given .1) (c .before .before .before .before .six .ensures)
 
-pub header-at-spec : {M : Type 1} → statement M
-header-at-spec =
+pub read-at-spec : {M : Type 1} → statement M
+read-at-spec =
     tie.close
     (tie.spec
     six-requires

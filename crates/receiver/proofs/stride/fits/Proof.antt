@@ -1,9 +1,9 @@
--- `receiver::lane::fits` meets its contract.
+-- `receiver::stride::fits` meets its contract.
 -- Assumes nothing.
 use Rattle.receiver.proofs.LaneAhead.{fits-if}
 use borrow.Author.Needs.{needs}
-use Rattle.receiver.proofs.lane.fits.Statement.{statement}
-use Rattle.receiver.proofs.lane.fits.Tie as tie
+use Rattle.receiver.proofs.stride.fits.Statement.{statement}
+use Rattle.receiver.proofs.stride.fits.Tie as tie
 
 returns : tie.Need-returns
 returns c = search needs
