@@ -177,19 +177,10 @@ pub fn complete_at(tp: &[u8], at: usize, most: usize) -> Read
     let Read::Whole(h) = header_at(tp, at) else {
         return Read::Beyond;
     };
-    if h.fragment != 0 {
-        return Read::Beyond;
+    if fits(h, most) {
+        return Read::Whole(h);
     }
-    if h.content < 1 {
-        return Read::Beyond;
-    }
-    if 6 < h.content {
-        return Read::Beyond;
-    }
-    if most < h.size {
-        return Read::Beyond;
-    }
-    Read::Whole(h)
+    Read::Beyond
 }
 
 // The data of a complete EP that began there, up to its end or the TP's.

@@ -1,6 +1,7 @@
 -- `receiver::stride::complete_at` meets its contract.
 -- Assumes nothing.
-use Rattle.receiver.proofs.Standing.{complete-kind, stands-of}
+use Rattle.receiver.proofs.LaneAhead.{fits-of}
+use Rattle.receiver.proofs.Standing.{stands-of}
 use borrow.Author.Needs.{needs}
 use Rattle.receiver.proofs.stride.complete_at.Statement.{statement}
 use Rattle.receiver.proofs.stride.complete_at.Tie as tie
@@ -26,21 +27,17 @@ enum-told c = search needs
 returns-3 : tie.Need-returns-3
 returns-3 c = search needs
 
+fits-requires : tie.Need-fits-requires
+fits-requires c κs = search needs
+
 returns-4 : tie.Need-returns-4
-returns-4 c = search needs
+returns-4 c =
+    let h = c .before .before .before .h .given .0 .0 in
+    let f = fits-of (c .before .fits2 .result) h _ (c .before .fits2 .ensures) (c .if3 .taken) in
+    (record { stands = stands-of _ _ _ _ (c .before .before .before .before .before .header-at .ensures) (c .before .before .before .h .given .1); kind = f .0 }, f .1)
 
 returns-5 : tie.Need-returns-5
 returns-5 c = search needs
-
-returns-6 : tie.Need-returns-6
-returns-6 c = search needs
-
-returns-7 : tie.Need-returns-7
-returns-7 c = search needs
-
-returns-8 : tie.Need-returns-8
-returns-8 c =
-    (record { stands = stands-of _ _ _ _ (c .before .before .before .before .before .before .before .before .before .before .before .header-at .ensures) (c .before .before .before .before .before .before .before .before .before .h .given .1); kind = complete-kind _ (c .before .before .before .before .if4 .left) (c .before .before .if5 .left) (c .before .before .before .before .before .before .if3 .left) }, c .if6 .left)
 
 pub complete-at-spec : {M : Type 1} → statement M
 complete-at-spec =
@@ -53,8 +50,6 @@ complete-at-spec =
     enum-known-h
     enum-told
     returns-3
+    fits-requires
     returns-4
-    returns-5
-    returns-6
-    returns-7
-    returns-8)
+    returns-5)
