@@ -6,6 +6,9 @@ ghost use lib.ListN.{length};
 ghost use Rattle.receiver.specs.State.{Able};
 ghost use Rattle.block.specs.Block.{put as Block·put};
 ghost use Rattle.index_loop.specs.Walking.{textOf, Found, Onward, Ready, Ahead, Lies, Walked};
+
+mod lanes;
+
 use console::Unread;
 use files::Got;
 use house::AtHand;
@@ -217,6 +220,7 @@ fn turns(
         if full <= run.at {
             return run;
         }
+        run = lanes::pass_all(task, full, gone, run, till, block, room, out);
         let from = run.from;
         let unread = &block[from..till];
         let AtHand::Whole(said) = house::read_record(Place::Listing, unread) else {

@@ -174,6 +174,13 @@ pub fn count_of(r: Receiver) -> u64
     r.count
 }
 
+// How long a room a receiver is lent.
+pub fn room_of(r: Receiver) -> usize
+    ensures { λ n. ⌜ n ≡ r .limit ⌝ }
+{
+    r.limit
+}
+
 fn walk_in(was: Place, lane: Lane, at: usize, cap: usize) -> Walk
     requires { ⌜ Tidy cap lane ⌝ }
     ensures { λ q. ⌜ q ≡ walkIn was lane at ⌝ }

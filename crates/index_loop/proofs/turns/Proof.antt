@@ -17,9 +17,7 @@ abbrev μ-loop : tie.MeasureT-loop
 μ-loop task full gone till block room₀ out₀ run₀ left₀ room out run left = left
 
 loop-holds : tie.Need-loop-holds Inv-loop μ-loop
-loop-holds c =
-    let p = c .before .before .before .pre in
-    (record { able = p .able; from = omega arith; end = p .from }, (refl, refl))
+loop-holds c = let p = c .before .before .before .pre in (record { able = p .able; from = omega arith; end = p .from }, (refl, refl))
 
 same-length : tie.Need-same-length Inv-loop μ-loop
 same-length c = search needs
@@ -30,14 +28,17 @@ same-length-2 c = search needs
 returns : tie.Need-returns Inv-loop μ-loop
 returns c = c .before .before .before .loop .inv .0
 
+pass-all-requires : tie.Need-pass-all-requires Inv-loop μ-loop
+pass-all-requires c κs = let i = c .before .before .before .before .before .loop .inv .0 in record { able = i .able; from = i .end; end = c .before .before .before .before .before .before .before .before .before .pre .end }
+
 sub-unread : tie.Need-sub-unread Inv-loop μ-loop
-sub-unread c = search needs
+sub-unread c = c .before .before .before .before .pass-all .ensures .end
 
 part-unread-start : tie.Need-part-unread-start Inv-loop μ-loop
-part-unread-start c = search needs
+part-unread-start c = omega (arith, c .before .before .before .before .pass-all .ensures .end)
 
 part-unread-end : tie.Need-part-unread-end Inv-loop μ-loop
-part-unread-end c = search needs
+part-unread-end c = omega (arith, c .before .before .before .before .pass-all .ensures .end, c .before .before .before .before .before .before .before .before .before .before .before .before .before .before .pre .end)
 
 read-record-requires : tie.Need-read-record-requires Inv-loop μ-loop
 read-record-requires c κs = search needs
@@ -46,38 +47,40 @@ enum-known-said : tie.Need-enum-known-said Inv-loop μ-loop
 enum-known-said c = search needs
 
 same-length-3 : tie.Need-same-length-3 Inv-loop μ-loop
-same-length-3 c = search needs
+same-length-3 c = c .before .before .before .before .before .before .room .given ∙ c .before .before .before .before .before .before .before .before .before .before .before .before .before .loop .inv .1 .0
 
 same-length-4 : tie.Need-same-length-4 Inv-loop μ-loop
-same-length-4 c = search needs
+same-length-4 c = c .before .before .before .before .out .given ∙ c .before .before .before .before .before .before .before .before .before .before .before .before .before .loop .inv .1 .1
 
 returns-2 : tie.Need-returns-2 Inv-loop μ-loop
-returns-2 c = c .before .before .before .before .before .before .loop .inv .0
+returns-2 c = let b = c .before .before .before .before .before .before .before .pass-all .ensures in record { able = b .able; from = omega (arith, b .from, c .before .before .before .before .before .before .before .before .before .before .before .before .before .loop .inv .0 .from); end = b .end }
 
 data-of-requires : tie.Need-data-of-requires Inv-loop μ-loop
 data-of-requires c κs = search needs
 
 turn-requires : tie.Need-turn-requires Inv-loop μ-loop
 turn-requires c κs =
-    let s = c .before .before .before .before .before .before .before .before .before .before .before .before .before .before .before in
-    let l = c .before .before .before .before .before .before .before .before .before .before .before .loop in
-    let w = data-within _ (s .args .block .now) _ (l .run .from) (s .args .till) _ (l .inv .0 .end) (sym (c .before .before .before .before .before .before .read-record .ensures) ∙ c .before .before .before .before .said .given .1) (c .before .before .data-of .ensures) in
-    (l .inv .0 .able, omega (arith, w, s .pre .end, s .good .1 .1 .1 .1 .1 .0 .0))
+    let s = c .before .before .before .before .before .before .before .before .before .before .before .before .before .before .before .before .before .before .before .before .before .before in
+    let l = c .before .before .before .before .before .before .before .before .before .before .before .before .before .before .before .before .before .before .loop in
+    let b = c .before .before .before .before .before .before .before .before .before .before .before .before .pass-all .ensures in
+    let w = data-within _ (s .args .block .now) _ (c .before .before .before .before .before .before .before .before .before .before .before .before .pass-all .result .from) (s .args .till) _ (b .end) (sym (c .before .before .before .before .before .before .read-record .ensures) ∙ c .before .before .before .before .said .given .1) (c .before .before .data-of .ensures) in
+    (b .able, omega (arith, w, s .pre .end, s .good .1 .1 .1 .1 .1 .0 .0))
 
 sub-left : tie.Need-sub-left Inv-loop μ-loop
-sub-left c = omega (arith, c .before .before .before .before .before .before .before .before .before .before .before .before .before .before .before .loop-test .taken)
+sub-left c = omega (arith, c .before .before .before .before .before .before .before .before .before .before .before .before .before .before .before .before .before .before .before .before .before .before .loop-test .taken)
 
 loop-less : tie.Need-loop-less Inv-loop μ-loop
-loop-less c = omega (arith, c .before .before .before .before .before .before .before .before .before .before .before .before .before .before .before .loop-test .taken)
+loop-less c = omega (arith, c .before .before .before .before .before .before .before .before .before .before .before .before .before .before .before .before .before .before .before .before .before .before .loop-test .taken)
 
 loop-again : tie.Need-loop-again Inv-loop μ-loop
 loop-again c =
-    let s = c .before .before .before .before .before .before .before .before .before .before .before .before .before .before .before .before .before .before .before .before in
-    let l = c .before .before .before .before .before .before .before .before .before .before .before .before .before .before .before .before .loop in
+    let s = c .before .before .before .before .before .before .before .before .before .before .before .before .before .before .before .before .before .before .before .before .before .before .before .before .before .before .before in
+    let l = c .before .before .before .before .before .before .before .before .before .before .before .before .before .before .before .before .before .before .before .before .before .before .before .loop in
+    let b = c .before .before .before .before .before .before .before .before .before .before .before .before .before .before .before .before .before .pass-all .ensures in
+    let w = data-within _ (s .args .block .now) _ (c .before .before .before .before .before .before .before .before .before .before .before .before .before .before .before .before .before .pass-all .result .from) (s .args .till) _ (b .end) (sym (c .before .before .before .before .before .before .before .before .before .before .before .read-record .ensures) ∙ c .before .before .before .before .before .before .before .before .before .said .given .1) (c .before .before .before .before .before .before .before .data-of .ensures) in
     let i = l .inv .0 in
     let t = c .before .before .before .before .turn .ensures in
-    let w = data-within _ (s .args .block .now) _ (l .run .from) (s .args .till) _ (l .inv .0 .end) (sym (c .before .before .before .before .before .before .before .before .before .before .before .read-record .ensures) ∙ c .before .before .before .before .before .before .before .before .before .said .given .1) (c .before .before .before .before .before .before .before .data-of .ensures) in
-    (record { able = t .able; from = omega (arith, i .from, t .from); end = omega (arith, w, t .end) }, (c .before .before .before .room .given ∙ l .inv .1 .0, c .before .out .given ∙ l .inv .1 .1))
+    (record { able = t .able; from = omega (arith, i .from, b .from, t .from); end = omega (arith, w, t .end) }, (c .before .before .before .room2 .given ∙ c .before .before .before .before .before .before .before .before .before .before .before .before .before .before .before .before .room .given ∙ l .inv .1 .0, c .before .out2 .given ∙ c .before .before .before .before .before .before .before .before .before .before .before .before .before .before .out .given ∙ l .inv .1 .1))
 
 same-length-5 : tie.Need-same-length-5 Inv-loop μ-loop
 same-length-5 c = search needs
@@ -98,6 +101,7 @@ turns-spec =
     same-length
     same-length-2
     returns
+    pass-all-requires
     sub-unread
     part-unread-start
     part-unread-end

@@ -1,0 +1,84 @@
+-- TPs in lanes: the line that is put for what is met, and what of a TP is left to calls. Assumes nothing.
+use Prim.Native.Nat.{ℕ, _≤_}
+use mathlib.Core.Path.{_≡_}
+use mathlib.Core.Bool.{cond}
+use mathlib.Core.List.{List, []}
+use Rattle.block.specs.Block.{put}
+use Rattle.receiver.specs.State.{Able}
+use Rattle.receiver.specs.Lanes.{Tidy, Lends, AheadAs, OutAs, inLane}
+use Rattle.receiver.specs.Place.{placeAt}
+use Rattle.receiver.specs.declared.Find.the-variants.{Ordinary}
+use Rattle.receiver.specs.declared.Receiver.{Receiver}
+use Rattle.receiver.specs.declared.Stage.the-variants.{Plain}
+use Rattle.receiver.specs.declared.Stamp.{Stamp}
+use Rattle.receiver.specs.declared.lane.Lane.{Lane}
+use Rattle.receiver.specs.declared.lane.Lane.the-variants.{Lost, Idle}
+use Rattle.receiver.specs.declared.lane.Met.{Met}
+use Rattle.receiver.specs.declared.lane.Met.the-variants as M
+use Rattle.receiver.specs.declared.low.Lows.{Lows}
+use Rattle.receiver.specs.declared.low.Lows.the-variants as L
+use Rattle.indexing.specs.Lines.{newText}
+use Rattle.index_loop.specs.declared.lanes.Left.{Left}
+use Rattle.index_loop.specs.declared.lanes.Left.the-variants.{Nothing, All, From}
+use Rattle.index_loop.specs.declared.lanes.Noted.{Noted}
+use Rattle.index_loop.specs.declared.lanes.Part.{Part}
+use Rattle.index_loop.specs.declared.lanes.Part.the-variants.{Within, Broken, Behind}
+use Rattle.index_loop.specs.declared.lanes.Way.{Way}
+use Rattle.index_loop.specs.declared.lanes.Way.the-variants.{On, Off}
+
+-- the line of a packet that is met in record n: by `MetAs` it is what the call gives there
+abbrev pub metText : ℕ → ℕ → Met → List ℕ
+metText covered n M.Other = []
+metText covered n (M.Drops k) = []
+metText covered n (M.Ends l) = []
+metText covered n (M.Reads i) = []
+metText covered n (M.Gives c e p len end) = newText covered n p (Ordinary c len)
+
+-- the line of what the low-latency part gives, as in `lowCall`
+abbrev pub lowText : ℕ → Stamp → Lows → List ℕ
+lowText covered t (L.Broken i) = []
+lowText covered t (L.End i) = []
+lowText covered t (L.Gives f e i more end) = newText covered (t .number) (placeAt t i) f
+
+-- between two EPs: what the call meets there is what is put
+pub record Looked (covered start : ℕ) (t : Stamp) (tp m out : List ℕ) (at : ℕ) (r : Noted) (m′ out′ : List ℕ) : Type 0 where
+  pub met : AheadAs (r .met) start t tp m m′
+  pub text : record { bytes = out′; at = r .at } ≡ put out at (metText covered (t .number) (r .met))
+
+-- the same behind the low-latency part
+pub record SetOut (covered : ℕ) (l : Lane) (offset place : ℕ) (t : Stamp) (tp m out : List ℕ) (at : ℕ) (r : Noted) (m′ out′ : List ℕ) : Type 0 where
+  pub met : OutAs (r .met) l offset place tp m m′
+  pub text : record { bytes = out′; at = r .at } ≡ put out at (metText covered (t .number) (r .met))
+
+-- what is left to calls of a receiver of b's settings can be asked for
+abbrev pub LeftFits : Receiver → Left → Type 0
+LeftFits b (Nothing l) = Tidy (b .limit) l
+LeftFits b All = 0 ≤ 0
+LeftFits b (From l s i) = Tidy (b .limit) l × ((k : ℕ) → Able (inLane b k l s i))
+
+-- whatever receiver lends this TP and this room, from this place on
+abbrev pub Leaves : ℕ → List ℕ → List ℕ → Left → Type 0
+Leaves at tp m l = (b : Receiver) → Lends b at tp m → LeftFits b l
+
+-- between two EPs, at this place
+abbrev pub plainAt : ℕ → Left
+plainAt i = From Idle Plain i
+
+-- where it goes on behind what is met; what is left here, where that is left to a call
+abbrev pub wayBy : Met → Left → Way
+wayBy M.Other here = Off here
+wayBy (M.Drops k) here = Off (Nothing Lost)
+wayBy (M.Ends l) here = Off (Nothing l)
+wayBy (M.Reads i) here = On i
+wayBy (M.Gives c e p len end) here = On end
+
+-- the low-latency part of a TP of n bytes, from place 4 on
+abbrev pub PartFits : ℕ → Part → Type 0
+PartFits n (Within i) = (4 ≤ i) × (i ≤ n)
+PartFits n Broken = 0 ≤ 0
+PartFits n (Behind i) = (4 ≤ i) × (i ≤ n)
+
+abbrev pub partBy : Lows → Part
+partBy (L.Broken i) = Broken
+partBy (L.End i) = Behind i
+partBy (L.Gives f e i more end) = cond more (Within end) (Behind end)
