@@ -12,8 +12,8 @@ use Rattle.block.specs.Block.{Block, placed, put}
 use Rattle.block.specs.Decimal.{decimal}
 use Rattle.block.proofs.Laws.{fits, then, blockOf, room}
 use Rattle.block.proofs.Decimals.{decimal-most}
-use Rattle.listing.specs.Lines.{lowWord, ordinaryWord, lineOf, lineWith as Listing·lineWith}
-use Rattle.listing.proofs.Laws.{line-most}
+use Rattle.listing.specs.Lines.{lowWord, ordinaryWord, behind, restOf}
+use Rattle.listing.proofs.Laws.{rest-most}
 use Rattle.receiver.specs.declared.Find.{Find}
 use Rattle.receiver.specs.declared.Find.the-variants.{Nothing, Refused, Notice, Low, Ordinary}
 use Rattle.receiver.specs.declared.Place.{Place}
@@ -21,8 +21,8 @@ use Rattle.indexing.specs.Lines.{lineWith, findText, isPacket, packetTex
 
 -- ---- a packet's line
 
-line-is : (r p : ℕ) (w : List ℕ) (c n : ℕ) → lineWith r p w c n ≡ decimal r ++ (32 ∷ []) ++ Listing·lineWith p w c n
-unfolding lineWith Listing·lineWith
+line-is : (r p : ℕ) (w : List ℕ) (c n : ℕ) → lineWith r p w c n ≡ decimal r ++ (32 ∷ []) ++ decimal p ++ behind w c n
+unfolding lineWith
 line-is r p w c n = simp append-assoc
 
 -- only a packet has one
@@ -40,18 +40,25 @@ pub its-line : (p : Place) (f : Find) → isPacket f ≡ true → packetText p f
 its-line p f e = sym (chosen p f ∙ ap (λ (b : Bool). cond b (packetText p f) []) e)
 
 packet-most : (p : Place) (f : Find) → length (packetText p f) ≤ 101
-packet-most p f = simp length-append (omega (arith, decimal-most (p .stamp .number), line-most (p .at) f))
+packet-most p f = simp length-append (omega (arith, decimal-most (p .stamp .number), decimal-most (p .at), rest-most f))
 
-pub spelled : (d : List ℕ) (at : ℕ) (p : Place) (f : Find) → at + 101 ≤ length d → (y₁ y₂ y₃ : List ℕ) (r₁ r₂ r₃ : ℕ)
-    → blockOf y₁ r₁ ≡ put d at (decimal (p .stamp .number))
-    → blockOf y₂ r₂ ≡ put y₁ r₁ (32 ∷ [])
-    → blockOf y₃ r₃ ≡ put y₂ r₂ (lineOf (p .at) f)
-    → blockOf y₃ r₃ ≡ put d at (packetText p f)
-spelled d at p f h y₁ y₂ y₃ r₁ r₂ r₃ e₁ e₂ e₃ =
-    let record-most = decimal-most (p .stamp .number) in
-    let rest-most = line-most (p .at) f in
-    let e₁₂ = then d y₁ y₂ (decimal (p .stamp .number)) (32 ∷ []) at r₁ r₂ (omega (arith, record-most)) e₁ e₂ in
-    then d y₂ y₃ (decimal (p .stamp .number) ++ (32 ∷ [])) (lineOf (p .at) f) at r₂ r₃ (simp length-append (omega (arith, record-most, rest-most))) e₁₂ e₃
+-- its record and its place leave room for the rest
+module _ (d : List ℕ) (at : ℕ) (p : Place) (h : at + 101 ≤ length d) (y₁ y₂ y₃ : List ℕ) (r₁ r₂ r₃ : ℕ) (e₁ : blockOf y₁ r₁ ≡ put d at (decimal (p .stamp .number)))
+    (e₂ : blockOf y₂ r₂ ≡ put y₁ r₁ (32 ∷ [])) (e₃ : blockOf y₃ r₃ ≡ put y₂ r₂ (decimal (p .at))) where
+  headed : blockOf y₃ r₃ ≡ put d at (decimal (p .stamp .number) ++ (32 ∷ []) ++ decimal (p .at))
+  headed =
+      let record-most = decimal-most (p .stamp .number) in
+      let place-most = decimal-most (p .at) in
+      let e₁₂ = then d y₁ y₂ (decimal (p .stamp .number)) (32 ∷ []) at r₁ r₂ (omega (arith, record-most)) e₁ e₂ in
+      then d y₂ y₃ (decimal (p .stamp .number) ++ (32 ∷ [])) (decimal (p .at)) at r₂ r₃ (simp length-append (omega (arith, record-most, place-most))) e₁₂ e₃
+
+  pub rest-room : r₃ + 52 ≤ length y₃
+  rest-room = room d y₃ (decimal (p .stamp .number) ++ (32 ∷ []) ++ decimal (p .at)) at r₃ 52 headed (simp length-append (omega (arith, decimal-most (p .stamp .number), decimal-most (p .at))))
+
+  pub spelled : (f : Find) (y₄ : List ℕ) (r₄ : ℕ) → blockOf y₄ r₄ ≡ put y₃ r₃ (restOf f) → blockOf y₄ r₄ ≡ put d at (packetText p f)
+  spelled f y₄ r₄ e₄ =
+      then d y₃ y₄ (decimal (p .stamp .number) ++ (32 ∷ []) ++ decimal (p .at)) (restOf f) at r₃ r₄
+      (simp length-append (omega (arith, decimal-most (p .stamp .number), decimal-most (p .at), rest-most f))) headed e₄
 
 -- a text of its own holds it from its first byte on
 module _ (d : List ℕ) (long : 101 ≤ length d) (p : Place) (f : Find) (y : List ℕ) (r : ℕ) (e : blockOf y r ≡ put d 0 (packetText p f)) where

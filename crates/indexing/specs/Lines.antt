@@ -5,7 +5,7 @@ use mathlib.Core.Bool.{Bool, true, false, cond}
 use mathlib.Core.List.{List, [], _∷_, _++_}
 use lib.Dec.{eqb, leb, ltb}
 use Rattle.block.specs.Decimal.{decimal}
-use Rattle.listing.specs.Lines.{lowWord, ordinaryWord, lineOf}
+use Rattle.listing.specs.Lines.{lowWord, ordinaryWord, restOf}
 use Rattle.receiver.specs.declared.Find.{Find}
 use Rattle.receiver.specs.declared.Find.the-variants.{Nothing, Refused, Notice, Low, Ordinary}
 use Rattle.receiver.specs.declared.Place.{Place}
@@ -48,9 +48,9 @@ isPacket (Notice k) = false
 isPacket (Low c start n) = true
 isPacket (Ordinary c n) = true
 
--- a packet's line is its record and what a listing says behind a TP's number, here the place
+-- a packet's line is its record, its place and what a listing says behind a TP's number
 abbrev pub packetText : Place → Find → List ℕ
-packetText p f = decimal (p .stamp .number) ++ (0x20 ∷ []) ++ lineOf (p .at) f
+packetText p f = decimal (p .stamp .number) ++ (0x20 ∷ []) ++ decimal (p .at) ++ restOf f
 
 -- "lists nothing twice": a covered record is only read again
 abbrev pub newText : ℕ → ℕ → Place → Find → List ℕ

@@ -23,14 +23,15 @@ fn is_packet(find: Find) -> bool
     }
 }
 
-// Puts a packet's line, where the longest line has room: its record, and what a listing would say behind the place.
+// Puts a packet's line, where the longest line has room: its record, its place, and what a listing says behind a TP's number.
 fn spell(began: Place, find: Find, out: &mut [u8], at: usize) -> usize
     requires { ⌜ at + 101 ≤ length (now out) ⌝ }
     ensures { λ r. ⌜ record { bytes = now (out .exit); at = r } ≡ put (now (out .entry)) at (packetText began find) ⌝ }
 {
     let mut end = block::put_number(out, at, began.stamp.number);
     end = block::put(out, end, b" ");
-    listing::line(began.at as u64, find, out, end)
+    end = block::put_number(out, end, began.at as u64);
+    listing::rest(find, out, end)
 }
 
 // Puts the line of a find that began at this place; only a packet has one.

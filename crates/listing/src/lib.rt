@@ -95,7 +95,7 @@ fn ordinary(content: u64, bytes: u64, out: &mut [u8], at: usize) -> usize
 }
 
 // Puts what the line of a find has behind the TP's number, where the longest has room.
-fn rest(find: Find, out: &mut [u8], at: usize) -> usize
+pub fn rest(find: Find, out: &mut [u8], at: usize) -> usize
     requires { ⌜ at + 52 ≤ length (now out) ⌝ }
     ensures { λ r. ⌜ record { bytes = now (out .exit); at = r } ≡ put (now (out .entry)) at (restOf find) ⌝ }
 {

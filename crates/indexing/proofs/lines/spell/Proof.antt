@@ -1,6 +1,6 @@
--- `lines::spell` meets its contract: the record, a space and a listing's line are the packet's line.
+-- `lines::spell` meets its contract: the record, a space, the place and a listing's rest are the packet's line.
 -- Assumes nothing.
-use Rattle.indexing.proofs.Laws.{spelled}
+use Rattle.indexing.proofs.Laws.{rest-room, spelled}
 use borrow.Author.Needs.{needs}
 use Rattle.indexing.proofs.lines.spell.Statement.{statement}
 use Rattle.indexing.proofs.lines.spell.Tie as tie
@@ -14,17 +14,23 @@ slice-aggregate-put c = search needs
 put-requires : tie.Need-put-requires
 put-requires c κs = search needs
 
-line-requires : tie.Need-line-requires
-line-requires c κs = search needs
+put-number-requires-2 : tie.Need-put-number-requires-2
+put-number-requires-2 c κs = search needs
+
+rest-requires : tie.Need-rest-requires
+rest-requires c κs =
+    let s = c .before .before .before .before .before .before .before .before .before .before .before .before .before .before .before in
+    let a = s .args in
+    rest-room (a .out .now) (a .at) (a .began) (s .pre) _ _ _ _ _ _ (c .before .before .before .before .before .before .before .before .before .before .before .before .put-number .ensures) (c .before .before .before .before .before .before .before .put .ensures) (c .before .before .before .put-number2 .ensures)
 
 same-length : tie.Need-same-length
 same-length c = search needs
 
 returns : tie.Need-returns
 returns c =
-    let s = c .before .before .before .before .before .before .before .before .before .before .before .before .before .before in
+    let s = c .before .before .before .before .before .before .before .before .before .before .before .before .before .before .before .before .before .before in
     let a = s .args in
-    spelled (a .out .now) (a .at) (a .began) (a .find) (s .pre) _ _ _ _ _ _ (c .before .before .before .before .before .before .before .before .before .before .before .put-number .ensures) (c .before .before .before .before .before .before .put .ensures) (c .before .before .line .ensures)
+    spelled (a .out .now) (a .at) (a .began) (s .pre) _ _ _ _ _ _ (c .before .before .before .before .before .before .before .before .before .before .before .before .before .before .before .put-number .ensures) (c .before .before .before .before .before .before .before .before .before .before .put .ensures) (c .before .before .before .before .before .before .put-number2 .ensures) (a .find) _ _ (c .before .before .rest .ensures)
 
 pub spell-spec : {M : Type 1} → statement M
 spell-spec =
@@ -33,6 +39,7 @@ spell-spec =
     put-number-requires
     slice-aggregate-put
     put-requires
-    line-requires
+    put-number-requires-2
+    rest-requires
     same-length
     returns)
