@@ -19,9 +19,8 @@ use Rattle.receiver.specs.declared.Find.{Find}
 use Rattle.receiver.specs.declared.Place.{Place}
 use Rattle.receiver.specs.declared.Receiver.{Receiver}
 use Rattle.receiver.specs.declared.Stage.{Stage}
-use Rattle.receiver.specs.declared.Stage.the-variants.{Fresh, Low, Due, Plain}
+use Rattle.receiver.specs.declared.Stage.the-variants.{Low, Due, Plain}
 use Rattle.receiver.specs.declared.Stamp.{Stamp}
-use Rattle.receiver.specs.declared.entry.Top.{Top}
 use Rattle.receiver.specs.declared.entry.Top.the-variants.{Elsewhere, Says}
 use Rattle.receiver.specs.declared.lane.Lane.{Lane}
 use Rattle.receiver.specs.declared.lane.Lane.the-variants as L
@@ -33,7 +32,7 @@ use Rattle.receiver.proofs.Laning.{StageAt, lane-able}
 use Rattle.receiver.proofs.TakingUp.{says-small}
 use Rattle.receiver.proofs.Walking.{low-in, place}
 use Rattle.index_loop.specs.declared.lanes.Left.{Left}
-use Rattle.index_loop.specs.declared.lanes.Left.the-variants.{Nothing, All, From}
+use Rattle.index_loop.specs.declared.lanes.Left.the-variants.{From}
 use Rattle.index_loop.specs.declared.lanes.Noted.{Noted}
 use Rattle.index_loop.specs.declared.lanes.Part.{Part}
 use Rattle.index_loop.specs.declared.lanes.Part.the-variants.{Within, Broken, Behind}

@@ -1,6 +1,5 @@
 -- `index_loop::lanes::ordinary` meets its contract: what is met first leads on, or is left.
 -- Assumes nothing.
-use mathlib.Core.Path.{_∙_}
 use Rattle.index_loop.proofs.Passing.{due-leaves, out-leaves, out-then}
 use borrow.Author.Needs.{needs}
 use Rattle.index_loop.proofs.lanes.ordinary.Statement.{statement}
