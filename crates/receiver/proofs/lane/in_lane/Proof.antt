@@ -2,15 +2,10 @@
 use borrow.Author.Needs.{needs}
 use Rattle.receiver.proofs.lane.in_lane.Statement.{statement}
 use Rattle.receiver.proofs.lane.in_lane.Tie as tie
-use Rattle.receiver.proofs.lane.in_lane.Reads as reads
-use Rattle.receiver.proofs.lane.in_lane.Lts as lts
-use Rattle.receiver.proofs.lane.walk_in.Reads as walk-in-reads
 
--- src/lane.rt:158:15
 walk-in-requires : tie.Need-walk-in-requires
 walk-in-requires c κs = search needs
 
--- src/lane.rt:146:1
 returns : tie.Need-returns
 returns c = rw (c .walk-in .ensures)
 

@@ -4,8 +4,6 @@ use Rattle.receiver.proofs.Laned.{same-if}
 use borrow.Author.Needs.{needs}
 use Rattle.receiver.proofs.lane.is_same.Statement.{statement}
 use Rattle.receiver.proofs.lane.is_same.Tie as tie
-use Rattle.receiver.proofs.lane.is_same.Reads as reads
-use Rattle.receiver.proofs.lane.is_same.Lts as lts
 
 returns : tie.Need-returns
 returns c = search needs

@@ -7,10 +7,6 @@ use Rattle.receiver.proofs.Laned.{kept-busy, kept-roomy, same-of}
 use borrow.Author.Needs.{needs}
 use Rattle.receiver.proofs.lane.kept_of.Statement.{statement}
 use Rattle.receiver.proofs.lane.kept_of.Tie as tie
-use Rattle.receiver.proofs.lane.kept_of.Reads as reads
-use Rattle.receiver.proofs.lane.kept_of.Lts as lts
-use Rattle.receiver.proofs.stride.fits.Reads as fits-reads
-use Rattle.receiver.proofs.lane.is_same.Reads as is-same-reads
 
 enum-known-phase : tie.Need-enum-known-phase
 enum-known-phase c = search needs

@@ -8,10 +8,6 @@ use Rattle.receiver.proofs.Laned.{laned, walk-is}
 use borrow.Author.Needs.{needs}
 use Rattle.receiver.proofs.lane.lane_of.Statement.{statement}
 use Rattle.receiver.proofs.lane.lane_of.Tie as tie
-use Rattle.receiver.proofs.lane.lane_of.Reads as reads
-use Rattle.receiver.proofs.lane.lane_of.Lts as lts
-use Rattle.receiver.proofs.lane.kept_of.Reads as kept-of-reads
-use Rattle.receiver.proofs.lane.unkept.Reads as unkept-reads
 
 enum-told : tie.Need-enum-told
 enum-told c = search needs

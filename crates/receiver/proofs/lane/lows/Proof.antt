@@ -9,11 +9,7 @@ use Rattle.receiver.specs.Lows.{lows, lowsOf}
 use borrow.Author.Needs.{needs}
 use Rattle.receiver.proofs.lane.lows.Statement.{statement}
 use Rattle.receiver.proofs.lane.lows.Tie as tie
-use Rattle.receiver.proofs.lane.lows.Reads as reads
-use Rattle.receiver.proofs.lane.lows.Lts as lts
-use Rattle.receiver.proofs.low.walk.Reads as walk-reads
 
--- src/lane.rt:178:9
 returns : tie.Need-returns
 unfolding lowsOf lows llep
 returns c =
@@ -21,11 +17,9 @@ returns c =
     let e : _≡_ {A = List ℕ} (drop (a .at) (a .tp .now)) [] = drop-of-length-le (a .tp .now) {i = a .at} (omega (arith, c .if1 .taken)) in
     rw e
 
--- src/lane.rt:180:5
 walk-requires : tie.Need-walk-requires
 walk-requires c κs = search needs
 
--- src/lane.rt:174:1
 returns-2 : tie.Need-returns-2
 returns-2 c = search needs
 

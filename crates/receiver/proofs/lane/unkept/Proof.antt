@@ -4,8 +4,6 @@ use Rattle.receiver.proofs.Laned.{unkept-cut, unkept-idle}
 use borrow.Author.Needs.{needs}
 use Rattle.receiver.proofs.lane.unkept.Statement.{statement}
 use Rattle.receiver.proofs.lane.unkept.Tie as tie
-use Rattle.receiver.proofs.lane.unkept.Reads as reads
-use Rattle.receiver.proofs.lane.unkept.Lts as lts
 
 enum-told : tie.Need-enum-told
 enum-told c = search needs

@@ -3,54 +3,40 @@ use native.Mathlib.Omega.{arith}
 use borrow.Author.Needs.{needs}
 use Rattle.receiver.proofs.lane.walk_in.Statement.{statement}
 use Rattle.receiver.proofs.lane.walk_in.Tie as tie
-use Rattle.receiver.proofs.lane.walk_in.Reads as reads
-use Rattle.receiver.proofs.lane.walk_in.Lts as lts
 
--- src/lane.rt:94:20
 enum-told : tie.Need-enum-told
 enum-told c = search needs
 
--- src/lane.rt:100:20
 enum-told-2 : tie.Need-enum-told-2
 enum-told-2 c = search needs
 
--- src/lane.rt:106:20
 enum-told-3 : tie.Need-enum-told-3
 enum-told-3 c = search needs
 
--- src/lane.rt:110:21
 enum-known-lane : tie.Need-enum-known-lane
 enum-known-lane c = search needs
 
--- src/lane.rt:117:13
 enum-known-lane-2 : tie.Need-enum-known-lane-2
 enum-known-lane-2 c = search needs
 
--- src/lane.rt:126:23
 add-t24 : tie.Need-add-t24
 add-t24 c = let g = rw (c .before .lane2 .given .1) at (c .before .before .before .pre) in omega (arith, g .1)
 
--- src/lane.rt:131:27
 cast-t25 : tie.Need-cast-t25
 cast-t25 c = search needs
 
--- src/lane.rt:87:1
 returns : tie.Need-returns
 returns c = rw (c .enum-told .given .1)
 
--- src/lane.rt:87:1
 returns-2 : tie.Need-returns-2
 returns-2 c = rw (c .enum-told2 .given .1)
 
--- src/lane.rt:87:1
 returns-3 : tie.Need-returns-3
 returns-3 c = rw (c .enum-told3 .given .1)
 
--- src/lane.rt:87:1
 returns-4 : tie.Need-returns-4
 returns-4 c = rw (c .before .lane .given .1)
 
--- src/lane.rt:87:1
 returns-5 : tie.Need-returns-5
 returns-5 c = rw (c .before .lane2 .given .1)
 
