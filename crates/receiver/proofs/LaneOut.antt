@@ -68,7 +68,7 @@ use Rattle.receiver.proofs.Striding.{began-free, then-on}
 -- ---- setting about ordinary bytes
 
 -- a call among them looks at the settings only
-settings-only : (b : Receiver) (k : ℕ) (s s′ : Stage) (w w′ : Walk) (t : Stamp) (p : Pulled wire) → ordinaryCall (madeOf b k s w) t p ≡ ordinaryCall (madeOf b k s′ w′) t p
+pub settings-only : (b : Receiver) (k : ℕ) (s s′ : Stage) (w w′ : Walk) (t : Stamp) (p : Pulled wire) → ordinaryCall (madeOf b k s w) t p ≡ ordinaryCall (madeOf b k s′ w′) t p
 settings-only b k s s′ w w′ t p = by (p .find)
   where
     by : (f : Option (Finding wire)) → ordinaryBy f (madeOf b k s w) t p ≡ ordinaryBy f (madeOf b k s′ w′) t p
