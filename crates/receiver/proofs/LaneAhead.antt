@@ -41,7 +41,7 @@ use Rattle.receiver.specs.Place.{placeAt}
 use Rattle.receiver.specs.State.{Sound, pullOf}
 use Rattle.receiver.specs.Turns.{advanceOf, bodyTurn, headerTurn, openedOf, walkAt, wholeOf}
 use Rattle.wire.proofs.Answers.{read-intact-is}
-use Rattle.receiver.proofs.Bodies.{advance-carries, room-length}
+use Rattle.receiver.proofs.Bodies.{advance-carries, lost-turned, room-length}
 use Rattle.receiver.proofs.Calling.{pullOf-none, tell-gives}
 use Rattle.receiver.proofs.Gather.{beyond-read, whole-read}
 use Rattle.receiver.proofs.Heading.{Bytes}
@@ -103,27 +103,27 @@ unfolding callAs
 plain-is b k t at tp m l w = rw (eq-eqb (length m) (b .limit) (l .full), eq-eqb (length tp) (b .size) (l .whole)) refl
 
 -- out of step nothing more is read
-pub lost-call : (b : Receiver) (k : ℕ) (t : Stamp) (at : ℕ) (tp m : List ℕ) → Lends b at tp m → Bytes tp → (j : ℕ) (p : Place) → j ≤ length tp
+pub lost-call : (b : Receiver) (k : ℕ) (t : Stamp) (at : ℕ) (tp m : List ℕ) → Lends b at tp m → (j : ℕ) (p : Place) → j ≤ length tp
     → Gives (plainCall b k t (walkAt j Lost p Empty) tp m) (endsIn (inLane b k L.Lost Fresh 0) t) tp m
-unfolding Carries advanceOf roomOf
-lost-call b k t at tp m l bytes j p q =
+unfolding Carries
+lost-call b k t at tp m l j p q =
     let w = walkAt j Lost p Empty in
     let sound : Sound (length m) (length tp) w = record { at = q; phase = omega arith } in
-    let d : Ends (length m) t w tp m (answerAt (length tp) Lost p Nothing) m = advance-carries (length m) t tp m refl bytes w sound in
+    let d : Ends (length m) t w tp m (answerAt (length tp) Lost p Nothing) m = lost-turned (length m) t tp m w sound refl in
     ends-lost b k t at tp m m l refl Plain w w (plainCall b k t w tp m) (plain-is b k t at tp m l w) (length tp) p d .0
 
 -- a notice that puts out of step, and then none
-pub drops : (b : Receiver) (k : ℕ) (t : Stamp) (at : ℕ) (tp m : List ℕ) → Lends b at tp m → Bytes tp → (s : Stage) (v w : Walk) (g : Gave)
+pub drops : (b : Receiver) (k : ℕ) (t : Stamp) (at : ℕ) (tp m : List ℕ) → Lends b at tp m → (s : Stage) (v w : Walk) (g : Gave)
     → ordinaryCall (madeOf b k s v) t (pullOf (length m) t w tp m) ≡ g → (j : ℕ) (p : Place) (n : ℕ) → 9 < n → Ends (length m) t w tp m (answerAt j Lost p (Notice n)) m
     → MetAs (M.Drops n) b k t g tp m m
-drops b k t at tp m l bytes s v w g e j p n large d = (
+drops b k t at tp m l s v w g e j p n large d = (
   refl,
   record {
     step = tellOf (Notice n) (madeOf b k s v) t (walkAt j Lost p Empty);
     gives = call-tells b k t at tp m m l refl s v w g e (answerAt j Lost p (Notice n)) d;
     find = refl;
     large = large;
-    ends = lost-call b k t at tp m l bytes j p (d .sound .at);
+    ends = lost-call b k t at tp m l j p (d .sound .at);
   },
 )
 
@@ -219,7 +219,7 @@ module _ (start from : ℕ) (t : Stamp) (tp m : List ℕ) (bytes : Bytes tp) (s 
     ahead-beyond f b k l =
         let w = between start (b .walk .began) Empty in
         let c = rw (← beyond-read (from + 6) (placeAt t from) Empty (length m) (headerIn (number 0 (take 6 (drop from tp)))) (sym e ∙ f)) at (whole-carries (b .walk .began) six) in
-        drops b k t start tp m l bytes Plain w w (plainCall b k t w tp m) (plain-is b k t start tp m l w) (from + 6) (placeAt t from) 12 (omega arith) c
+        drops b k t start tp m l Plain w w (plainCall b k t w tp m) (plain-is b k t start tp m l w) (from + 6) (placeAt t from) 12 (omega arith) c
 
     pub ahead-whole : (h : Header) → r ≡ Whole h → (p : Place) → p ≡ placeAt t from → (q : Met) (m′ : List ℕ) → EntersAs q h p (from + 6) tp m m′ → AheadAs q start t tp m m′
     ahead-whole h f p z q m′ d b k l =
