@@ -34,7 +34,7 @@ use Rattle.receiver.specs.Call.{Gave, Gives, always, callAs, callOf, cou
 use Rattle.receiver.specs.Forecast.{outset}
 use Rattle.receiver.specs.InSwift.{madeOf}
 use Rattle.receiver.specs.Kind.{kindOf}
-use Rattle.receiver.specs.Lanes.{FirstAs, Lends, LowAs, Tidy, callBy, inLane, topIn, walkIn}
+use Rattle.receiver.specs.Lanes.{FirstAs, Lends, LowAs, Tidy, callBy, inLane, topIn}
 use Rattle.receiver.specs.Low.{llep, wire}
 use Rattle.receiver.specs.Lows.{andThen, lows, lowsOf, oneOf, passedOf}
 use Rattle.receiver.specs.Pieces.{stepOf, topOf}
@@ -42,7 +42,7 @@ use Rattle.receiver.specs.Place.{countOf, ownOf, placeAt, placed, startO
 use Rattle.receiver.specs.State.{frameOf, from}
 use Rattle.receiver.specs.Turns.{walkAt}
 use Rattle.receiver.proofs.Calling.{drop-gives}
-use Rattle.receiver.proofs.LaneAhead.{lost-call}
+use Rattle.receiver.proofs.LaneAhead.{drops-rest}
 use Rattle.receiver.proofs.LaneOut.{settings-only}
 use Rattle.receiver.proofs.Laning.{StageAt, at-in, lane-able}
 use Rattle.receiver.proofs.TakingUp.{drops-small, fresh-top, freshBy}
@@ -159,13 +159,8 @@ low-as b k l o at t tp m d y payload small = by (lowsOf tp at) refl
     by (W.Broken i) e =
         let s = stepOf r Plain (length tp) Lost Empty (F.Notice 11) (placeAt t i) in
         let inside = low-in true tp at (W.Broken i) (d .within) e in
-        record {
-          step = s;
-          gives = subst (λ (g : Gave). Gives g s tp m) (is (W.Broken i) e) (drop-gives r t tp m (d .size) (d .whole) (d .full) 11 (placeAt t i) i (inside .1));
-          find = refl;
-          large = omega arith;
-          ends = lost-call b k t at tp m d (length tp) (r .walk .began) (omega arith);
-        }
+        drops-rest b k t at tp m d (Low o) (r .walk) (callBy t r tp m) 11 i (omega arith, refl, omega arith)
+        (subst (λ (g : Gave). Gives g s tp m) (is (W.Broken i) e) (drop-gives r t tp m (d .size) (d .whole) (d .full) 11 (placeAt t i) i (inside .1)))
     by (W.End i) e = due-is b k t tp m (d .full) (d .whole) l o i ∙ low-in-lane b k t tp m l (Due o) (Low o) i at (W.End i) o ∙ is (W.End i) e
     by (W.Gives f c i more end) e =
         let s = cond more (Low o) (Due o) in

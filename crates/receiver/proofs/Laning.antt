@@ -1,5 +1,5 @@
 -- A receiver in a lane can be called, and what a TP's header makes of its first call. Assumes nothing.
-use Prim.Native.Nat.{ℕ, _+_, _≤_, _<_}
+use Prim.Native.Nat.{ℕ, _≤_, _<_}
 use mathlib.Core.Path.{_≡_, refl, subst}
 use native.Mathlib.Omega.{arith}
 use Rattle.receiver.specs.declared.Place.{Place}

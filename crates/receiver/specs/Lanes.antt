@@ -30,7 +30,6 @@ use Rattle.receiver.specs.declared.walk.Walk.{Walk}
 use Rattle.receiver.specs.Call.{Gave, Gives, callAs, always, lasts}
 use Rattle.receiver.specs.Pieces.{noneOf, topOf}
 use Rattle.receiver.specs.Place.{placeAt, startOf, countOf}
-use Rattle.receiver.specs.State.{Able}
 use Rattle.receiver.specs.Turns.{walkAt}
 
 -- the header of a complete EP
@@ -84,12 +83,24 @@ stepTo r f a = record { receiver = r; find = f; about = a }
 abbrev pub endsIn : Receiver → Stamp → Step
 endsIn r t = stepTo r F.Nothing (noneOf (startOf t))
 
+-- a loss of step is told where it is met: 12 at a header, 11 at an LLEP; 10 and 21 at the payload's start, place 4
+abbrev pub LossAt : ℕ → ℕ → Type 0
+LossAt n i = cond (eqb n 11) (0 ≤ 0) (cond (eqb n 12) (0 ≤ 0) (i ≡ 4))
+
+-- and where it leaves reading: 12 behind the header; the others with the "rest of TP dropped"
+abbrev pub lossEnd : ℕ → ℕ → ℕ → ℕ
+lossEnd n i len = cond (eqb n 12) (i + 6) len
+
 -- "out of step": a notice, and then none
 pub record Drops (b : Receiver) (k : ℕ) (t : Stamp) (n : ℕ) (g : Gave) (tp m : List ℕ) : Type 0 where
   pub step : Step
   pub gives : Gives g step tp m
   pub find : step .find ≡ F.Notice n
   pub large : 9 < n
+  pub place : ℕ
+  pub met : LossAt n place
+  pub about : step .about ≡ noneOf (placeAt t place)
+  pub receiver : step .receiver ≡ inLane b k L.Lost Plain (lossEnd n place (length tp))
   pub ends : Gives (callBy t (step .receiver) tp m) (endsIn (inLane b k L.Lost Fresh 0) t) tp m
 
 -- what a call g comes to, in lanes of b's settings: left as it was; a loss of step; none; the call between two EPs at this place; or a packet, behind

@@ -1,7 +1,6 @@
 -- `receiver::lane::from_lane` meets its contract: each lane goes its way.
 -- Assumes nothing.
 use Prim.Native.Nat.{_+_}
-use native.Mathlib.Omega.{arith}
 use lib.ListN.{length}
 use Rattle.receiver.specs.declared.lane.Lane.the-variants as L
 use Rattle.receiver.specs.declared.lane.Met.the-variants as M

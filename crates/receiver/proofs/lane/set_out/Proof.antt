@@ -1,7 +1,6 @@
 -- `receiver::lane::set_out` meets its contract: past the payload, or behind the low-latency part in a lane.
 -- Assumes nothing.
 use mathlib.Core.Path.{sym, _∙_}
-use native.Mathlib.Omega.{arith}
 use lib.ListN.{length}
 use Rattle.receiver.proofs.LaneOut.{out-outside}
 use Rattle.receiver.proofs.Parting.{behind-in}
