@@ -18,6 +18,7 @@ use house::Setup;
 use listing::Ten;
 use receiver::Opened;
 use receiver::Receiver;
+use receiver::over;
 
 // Between two finds: the receiver, how many TPs are done, how much of the output block is held, where in the input block the
 // record begins.
@@ -71,11 +72,20 @@ fn turn(run: Run, said: Record, data: &[u8], room: &mut [u8], out: &mut [u8]) ->
     ensures { λ r. ⌜ Onward run (length (now («data» .entry))) r ⌝ }
     ensures { λ r. ⌜ Does said (now («data» .entry)) run (now (room .entry)) (now (out .entry)) r (now (room .exit)) (now (out .exit)) ⌝ }
 {
-    if let Record::Packet { length: _ } = said {
-        return finds(run, data, room, out);
-    }
     let receiver = run.receiver;
     let ten = run.ten;
+    if let Record::Packet { length: _ } = said {
+        if over::is_over(receiver, data, room.len()) {
+            return Run {
+                receiver: over::behind(receiver),
+                done: run.done + 1,
+                ten,
+                at: run.at,
+                from: run.from + 8 + data.len(),
+            };
+        }
+        return finds(run, data, room, out);
+    }
     Run {
         receiver: receiver::gap(receiver),
         done: run.done,

@@ -39,7 +39,7 @@ pub enum Top {
     Says { low: bool, offset: usize },
 }
 
-fn tp_word(tp: &[u8]) -> u32
+pub fn tp_word(tp: &[u8]) -> u32
     requires { ⌜ 4 ≤ length (now tp) ⌝ }
     ensures { λ q. ⌜ q ≡ number 0 (take 3 (drop 1 (now (tp .entry)))) ⌝ }
 {

@@ -12,6 +12,7 @@ mod kind;
 pub mod lane;
 mod low;
 mod outset;
+pub mod over;
 mod pieces;
 mod stages;
 mod stamps;

@@ -168,6 +168,14 @@ pub fn read_tp_word(bytes: u32) -> TpWord
     }
 }
 
+// The code word of 2047: no low-latency part, and no EP begins.
+const NO_START: u32 = 0x7F_F38A;
+
+// Whether three bytes, as a number, say that, repaired or not.
+pub fn says_no_start(bytes: u32) -> bool {
+    golay::is_near(bytes, NO_START)
+}
+
 pub fn sort_of(content: u8) -> Sort
     ensures { λ r. ⌜ r ≡ sortOf content ⌝ }
 {
