@@ -2,9 +2,10 @@
 ghost use mathlib.Core.Path.{_≡_};
 ghost use mathlib.Core.Option.{some};
 ghost use Prim.Native.Nat.{_+_, _≤_};
+ghost use lib.Dec.{leb};
 ghost use Rattle.wire.specs.Wire.{word, header, offsetNumber, tpHeader};
 ghost use Rattle.golay.specs.Answers.{reading};
-ghost use Rattle.golay.specs.Golay.{high, syndrome};
+ghost use Rattle.golay.specs.Golay.{codeWord, distance, high, syndrome};
 ghost use Rattle.wire.specs.Reading.{fieldsOf, headerFrom, headerIn, intactIn, readOf, tpNumberIn, tpWordOf, sortOf};
 
 mod limits;
@@ -172,7 +173,9 @@ pub fn read_tp_word(bytes: u32) -> TpWord
 const NO_START: u32 = 0x7F_F38A;
 
 // Whether three bytes, as a number, say that, repaired or not.
-pub fn says_no_start(bytes: u32) -> bool {
+pub fn says_no_start(bytes: u32) -> bool
+    ensures { λ r. ⌜ r ≡ leb (distance bytes (codeWord 2047)) 3 ⌝ }
+{
     golay::is_near(bytes, NO_START)
 }
 
