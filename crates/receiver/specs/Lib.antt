@@ -19,6 +19,8 @@ pub mod Pieces
 pub mod Turn
 -- a receiver's lanes: what loops over TPs carry
 pub mod Lanes
+-- a TP that is passed over
+pub mod Over
 -- a receiver as words, and back
 pub mod Words
 -- what the private functions promise one another, and nobody has to believe

@@ -1,4 +1,7 @@
 // A TP that is passed over: out of step, and no EP begins in it.
+ghost use mathlib.Core.Path.{_≡_};
+ghost use Rattle.receiver.specs.State.{Able};
+ghost use Rattle.receiver.specs.Over.{OverIf, overOf};
 use crate::Receiver;
 use crate::Stage;
 use crate::entry;
@@ -7,7 +10,10 @@ use crate::walk::Kept;
 use crate::walk::Phase;
 
 // Whether the next call on this TP, with a room of so many bytes, passes over it and says none. What is rare is asked last.
-pub fn is_over(r: Receiver, tp: &[u8], room: usize) -> bool {
+pub fn is_over(r: Receiver, tp: &[u8], room: usize) -> bool
+    requires { ⌜ Able r ⌝ }
+    ensures { λ q. ⌜ OverIf q r (now (tp .entry)) room ⌝ }
+{
     let w = r.walk;
     let phase = w.phase;
     let Phase::Lost = phase else {
@@ -27,6 +33,9 @@ pub fn is_over(r: Receiver, tp: &[u8], room: usize) -> bool {
     let Kept::Empty = kept else {
         return false;
     };
+    if w.at != 0 {
+        return false;
+    }
     if tp.len() != r.size {
         return false;
     }
@@ -41,7 +50,9 @@ pub fn is_over(r: Receiver, tp: &[u8], room: usize) -> bool {
 }
 
 // The receiver behind it: one TP more is counted.
-pub fn behind(r: Receiver) -> Receiver {
+pub fn behind(r: Receiver) -> Receiver
+    ensures { λ q. ⌜ q ≡ overOf r ⌝ }
+{
     let walk = r.walk;
     Receiver {
         size: r.size,

@@ -19,9 +19,8 @@ use Rattle.golay.specs.Answers.{count, reading, readingBelow}
 use Rattle.golay.proofs.Words.{parity-lt}
 use Rattle.golay.proofs.Theorems.{reading-near}
 use Rattle.wire.specs.declared.Header.{Header}
-use Rattle.wire.specs.declared.TpWord as W
 use Rattle.wire.specs.Wire.{word, firstNumber, header, ep, streamByte, offsetNumber, tpHeader}
-use Rattle.wire.specs.Reading.{numberOf, fieldsOf, headerFrom, headerIn, tpNumberIn, tpWordOf, streamOf, versionOf}
+use Rattle.wire.specs.Reading.{numberOf, fieldsOf, headerFrom, headerIn, tpNumberIn, streamOf, versionOf}
 
 -- ---- lengths
 
@@ -126,10 +125,10 @@ pub tp-word-back : (w : ℕ) (low : Bool) (o : ℕ) → distance w (codeWord (of
 unfolding tpNumberIn
 tp-word-back w low o near = number-back w (offsetNumber low o) (offset-lt low o) near
 
--- three bytes within three flips of the code word of 2047 say that there is no low-latency part and that no EP begins
-pub no-start : (w : ℕ) → leb (distance w (codeWord 2047)) 3 ≡ true → tpWordOf (tpNumberIn w) ≡ W.the-variants.Says false 2047
+-- three bytes within three flips of the code word of 2047 hold 2047: no low-latency part, and no EP begins
+pub no-start : (w : ℕ) → leb (distance w (codeWord 2047)) 3 ≡ true → tpNumberIn w ≡ some 2047
 unfolding tpNumberIn
-no-start w near = ap tpWordOf (number-back w 2047 (lit< tt) (leb-true (distance w (codeWord 2047)) 3 near))
+no-start w near = number-back w 2047 (lit< tt) (leb-true (distance w (codeWord 2047)) 3 near)
 
 -- bits 3 and 2 of the stream byte are sent zero, and ignored
 pub stream-back : (s r : ℕ) → s < 16 → r < 4 → (streamOf (streamByte s + r * 4) ≡ s) × (versionOf (streamByte s + r * 4) ≡ 0)
