@@ -19,11 +19,11 @@ use crate::Stamp;
 use crate::entry;
 use crate::entry::Top;
 use crate::kind;
+use crate::kind::Kind;
 use crate::lane;
 use crate::lane::Lane;
 use crate::lane::Lows;
 use crate::lane::Met;
-use crate::kind::Kind;
 use crate::outset;
 use crate::outset::Offset;
 use crate::stamps;
@@ -420,20 +420,146 @@ fn put_lane(w: &mut [u64; 23], count: u64, lane: Lane, stage: Stage, place: usiz
     let o = offset_of(stage);
     let at = place as u64;
     match lane {
-        Lane::Other => *w = [size, stream, limit, count, at, s, o, 0, 0, 0, 0, 0, 0, 0, 0, 0, 0, 0, 0, 0, 0, 0, 0],
-        Lane::Lost => *w = [size, stream, limit, count, at, s, o, 0, 0, 0, 0, 0, 0, 0, 0, 0, 0, 0, 0, 0, 0, 0, 0],
-        Lane::Idle => *w = [size, stream, limit, count, at, s, o, 1, 0, 0, 0, 0, 0, 0, 0, 0, 0, 0, 0, 0, 0, 0, 0],
+        Lane::Other => *w = [
+            size,
+            stream,
+            limit,
+            count,
+            at,
+            s,
+            o,
+            0,
+            0,
+            0,
+            0,
+            0,
+            0,
+            0,
+            0,
+            0,
+            0,
+            0,
+            0,
+            0,
+            0,
+            0,
+            0,
+        ],
+        Lane::Lost => *w = [
+            size,
+            stream,
+            limit,
+            count,
+            at,
+            s,
+            o,
+            0,
+            0,
+            0,
+            0,
+            0,
+            0,
+            0,
+            0,
+            0,
+            0,
+            0,
+            0,
+            0,
+            0,
+            0,
+            0,
+        ],
+        Lane::Idle => *w = [
+            size,
+            stream,
+            limit,
+            count,
+            at,
+            s,
+            o,
+            1,
+            0,
+            0,
+            0,
+            0,
+            0,
+            0,
+            0,
+            0,
+            0,
+            0,
+            0,
+            0,
+            0,
+            0,
+            0,
+        ],
         Lane::Cut { began, have, word } => {
             let t = began.stamp;
-            *w = [size, stream, limit, count, at, s, o, 1, have as u64, word, 0, 0, 0, t.number, t.byte, began.at as u64, 0, 0, 0, 0, 0, 0, 0];
+            *w = [
+                size,
+                stream,
+                limit,
+                count,
+                at,
+                s,
+                o,
+                1,
+                have as u64,
+                word,
+                0,
+                0,
+                0,
+                t.number,
+                t.byte,
+                began.at as u64,
+                0,
+                0,
+                0,
+                0,
+                0,
+                0,
+                0,
+            ];
         }
-        Lane::Busy { began, left, len, content, flips } => {
+        Lane::Busy {
+            began,
+            left,
+            len,
+            content,
+            flips,
+        } => {
             let t = began.stamp;
             let c = content as u64;
             let e = flips as u64;
             let n = len as u64;
             let i = began.at as u64;
-            *w = [size, stream, limit, count, at, s, o, 3, c, 0, (len + left) as u64, e, left as u64, t.number, t.byte, i, 1, c, e, n, t.number, t.byte, i];
+            *w = [
+                size,
+                stream,
+                limit,
+                count,
+                at,
+                s,
+                o,
+                3,
+                c,
+                0,
+                (len + left) as u64,
+                e,
+                left as u64,
+                t.number,
+                t.byte,
+                i,
+                1,
+                c,
+                e,
+                n,
+                t.number,
+                t.byte,
+                i,
+            ];
         }
     }
 }
@@ -446,7 +572,14 @@ fn low_stage(more: bool, offset: usize) -> Stage {
 }
 
 // The next find of the low-latency part.
-fn low_next(w: &mut [u64; 23], lane: Lane, offset: usize, at: usize, count: u64, tp: &[u8]) -> Part {
+fn low_next(
+    w: &mut [u64; 23],
+    lane: Lane,
+    offset: usize,
+    at: usize,
+    count: u64,
+    tp: &[u8],
+) -> Part {
     let stamp = stamps::own(count);
     match lane::lows(tp, at) {
         Lows::Broken(i) => {
