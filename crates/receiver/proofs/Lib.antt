@@ -55,3 +55,4 @@ pub mod LaneAhead
 pub mod LaneOut
 pub mod LaneFirst
 pub mod Laned
+pub mod OnWords

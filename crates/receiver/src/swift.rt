@@ -1,15 +1,17 @@
-// A call on a receiver's words, where it stands between two EPs with nothing kept, or before a TP in data that are kept or out
-// of step: only the words that it needs are read. Any other receiver, and whatever is to be judged, is left as it was to a call by value.
+// A call on a receiver's words, where it stands in a lane with nothing kept, or before a TP in data that are kept: only the words
+// that it needs are read. Any other receiver, and whatever is to be judged, is left as it was to a call by value.
 ghost use mathlib.Core.Path.{_≡_};
-ghost use mathlib.Core.Bool.{true};
-ghost use Prim.Native.Nat.{_≤_};
-ghost use lib.ListN.{length};
+ghost use mathlib.Core.Bool.{true, cond};
+ghost use Prim.Native.Nat.{_≤_, _<_};
+ghost use lib.ListN.{length, getD};
 ghost use Rattle.receiver.specs.declared.Find.the-variants as F;
+ghost use Rattle.receiver.specs.declared.Stage.the-variants.{Low, Due};
 ghost use Rattle.receiver.specs.declared.swift.Swift.the-variants as S;
 ghost use Rattle.receiver.specs.Place.{ownOf, startOf};
-ghost use Rattle.receiver.specs.Pieces.{noneOf};
-ghost use Rattle.receiver.specs.Words.{Bytes, fitb, receiverIn, wordsOf};
-ghost use Rattle.receiver.specs.InSwift.{Lent, Idle, Busy, FreeAs, BehindAs, FromAs, handsOf, SwiftAs, Astray, AstrayAs, IdleIf, AstrayIf, madeOf, betweenAt, lostWalk};
+ghost use Rattle.receiver.specs.Pieces.{noneOf, topOf};
+ghost use Rattle.receiver.specs.Words.{Bytes, fitb, receiverIn, stageWords, wordsOf};
+ghost use Rattle.receiver.specs.Lanes.{Tidy, inLane};
+ghost use Rattle.receiver.specs.InSwift.{Lent, Busy, BehindAs, handsOf, SwiftAs, madeOf, betweenAt, Stands, LaneAs, countBy, firstSpot, plainSpot, GoesAs, PartAs, LowPartAs, DueAs, OnAs, TidyMet, BehindMet};
 use crate::About;
 use crate::Find;
 use crate::Place;
@@ -235,18 +237,6 @@ fn busy(w: &mut [u64; 23], r: Receiver, tp: &[u8], room: &mut [u8]) -> Swift
     busy_next(w, r, header, left, held, tp, room)
 }
 
-// Out of step; where an EP began nobody looks.
-fn lost(at: usize) -> Walk
-    ensures { λ q. ⌜ q ≡ lostWalk ⌝ }
-{
-    Walk {
-        at,
-        phase: Phase::Lost,
-        began: stamps::start(stamps::own(0)),
-        kept: Kept::Empty,
-    }
-}
-
 // Before a TP in data, by the words; the compiler then reads no others.
 fn is_busy(w: &[u64; 23]) -> bool {
     if w[7] != 3 {
@@ -255,48 +245,11 @@ fn is_busy(w: &[u64; 23]) -> bool {
     w[5] == 0
 }
 
-fn walk_of(lane: Lane) -> Walk {
-    match lane {
-        Lane::Other => lost(0),
-        Lane::Lost => lost(0),
-        Lane::Idle => between(0),
-        Lane::Cut { began, have, word } => Walk {
-            at: 0,
-            phase: Phase::Head { have, word },
-            began,
-            kept: Kept::Empty,
-        },
-        Lane::Busy {
-            began,
-            left,
-            len,
-            content,
-            flips,
-        } => {
-            let header = Header {
-                content,
-                fragment: 0,
-                size: len + left,
-                flips,
-            };
-            let kept = Kept::Of {
-                content,
-                repaired: flips as u64,
-                began,
-                len,
-            };
-            Walk {
-                at: 0,
-                phase: Phase::Body { header, left },
-                began,
-                kept,
-            }
-        }
-    }
-}
-
 // The lane that words say, where nothing is kept.
-fn lane_in(w: &[u64; 23]) -> Lane {
+fn lane_in(w: &[u64; 23]) -> Lane
+    requires { ⌜ fitb (now w) ≡ true ⌝ }
+    ensures { λ q. ⌜ LaneAs q (receiverIn (now (w .entry))) ⌝ }
+{
     if w[16] != 0 {
         return Lane::Other;
     }
@@ -324,7 +277,10 @@ fn lane_in(w: &[u64; 23]) -> Lane {
 }
 
 // Before a TP, by its header.
-fn first_spot(stream: u8, tp: &[u8]) -> Spot {
+fn first_spot(stream: u8, tp: &[u8]) -> Spot
+    requires { ⌜ 4 ≤ length (now tp) ⌝ }
+    ensures { λ q. ⌜ q ≡ firstSpot (topOf stream (now (tp .entry))) ⌝ }
+{
     match entry::read_top(stream, tp) {
         Top::Elsewhere => Spot::Other,
         Top::Dropped(number) => Spot::Gone(number),
@@ -338,7 +294,9 @@ fn first_spot(stream: u8, tp: &[u8]) -> Spot {
 }
 
 // Among ordinary bytes.
-fn plain_spot(lane: Lane, at: usize, len: usize) -> Spot {
+fn plain_spot(lane: Lane, at: usize, len: usize) -> Spot
+    ensures { λ q. ⌜ q ≡ plainSpot lane at len ⌝ }
+{
     match lane {
         Lane::Other => Spot::Other,
         Lane::Lost => {
@@ -363,7 +321,10 @@ fn plain_spot(lane: Lane, at: usize, len: usize) -> Spot {
     }
 }
 
-fn spot_of(w: &[u64; 23], lane: Lane, tp: &[u8]) -> Spot {
+fn spot_of(w: &[u64; 23], lane: Lane, tp: &[u8]) -> Spot
+    requires { ⌜ (fitb (now w) ≡ true) × Stands lane (receiverIn (now w)) × (length (now tp) ≡ receiverIn (now w) .size) ⌝ }
+    ensures { λ q. ⌜ GoesAs q (receiverIn (now (w .entry))) lane (now (tp .entry)) ⌝ }
+{
     let at = w[4] as usize;
     let offset = w[6] as usize;
     if w[5] == 0 {
@@ -379,21 +340,27 @@ fn spot_of(w: &[u64; 23], lane: Lane, tp: &[u8]) -> Spot {
 }
 
 // How many TPs are counted with this one.
-fn count_in(w: &[u64; 23]) -> u64 {
+fn count_in(w: &[u64; 23]) -> u64
+    ensures { λ n. ⌜ n ≡ countBy (receiverIn (now (w .entry))) ⌝ }
+{
     if w[5] == 0 {
         return stamps::counted(w[3]);
     }
     w[3]
 }
 
-fn notice(number: u8, at: Place) -> Swift {
+fn notice(number: u8, at: Place) -> Swift
+    ensures { λ q. ⌜ q ≡ S.Gives (F.Notice number) (noneOf at) ⌝ }
+{
     let about = About { repaired: 0, at };
     let find = Find::Notice(number);
     Swift::Gives { find, about }
 }
 
 // Sort and offset.
-fn sort_of(stage: Stage) -> u64 {
+fn sort_of(stage: Stage) -> u64
+    ensures { λ n. ⌜ n ≡ getD (stageWords stage) 0 0 ⌝ }
+{
     match stage {
         Stage::Fresh => 0,
         Stage::Low(_) => 1,
@@ -402,7 +369,9 @@ fn sort_of(stage: Stage) -> u64 {
     }
 }
 
-fn offset_of(stage: Stage) -> u64 {
+fn offset_of(stage: Stage) -> u64
+    ensures { λ n. ⌜ n ≡ getD (stageWords stage) 1 0 ⌝ }
+{
     match stage {
         Stage::Fresh => 0,
         Stage::Low(offset) => offset as u64,
@@ -412,7 +381,11 @@ fn offset_of(stage: Stage) -> u64 {
 }
 
 // The words of a lane of w's settings.
-fn put_lane(w: &mut [u64; 23], count: u64, lane: Lane, stage: Stage, place: usize) {
+fn put_lane(w: &mut [u64; 23], count: u64, lane: Lane, stage: Stage, place: usize)
+    requires { ⌜ (fitb (now w) ≡ true) × Tidy (receiverIn (now w) .limit) lane ⌝ }
+    ensures { λ _. ⌜ now (w .exit) ≡ wordsOf (inLane (receiverIn (now (w .entry))) count lane stage place) ⌝ }
+    ensures { λ _. ⌜ Bytes (inLane (receiverIn (now (w .entry))) count lane stage place) ⌝ }
+{
     let size = w[0];
     let stream = w[1];
     let limit = w[2];
@@ -531,8 +504,8 @@ fn put_lane(w: &mut [u64; 23], count: u64, lane: Lane, stage: Stage, place: usiz
             flips,
         } => {
             let t = began.stamp;
-            let c = content as u64;
-            let e = flips as u64;
+            let c = words::wide(content);
+            let e = words::wide(flips);
             let n = len as u64;
             let i = began.at as u64;
             *w = [
@@ -564,7 +537,9 @@ fn put_lane(w: &mut [u64; 23], count: u64, lane: Lane, stage: Stage, place: usiz
     }
 }
 
-fn low_stage(more: bool, offset: usize) -> Stage {
+fn low_stage(more: bool, offset: usize) -> Stage
+    ensures { λ q. ⌜ q ≡ cond more (Low offset) (Due offset) ⌝ }
+{
     if more {
         return Stage::Low(offset);
     }
@@ -572,14 +547,10 @@ fn low_stage(more: bool, offset: usize) -> Stage {
 }
 
 // The next find of the low-latency part.
-fn low_next(
-    w: &mut [u64; 23],
-    lane: Lane,
-    offset: usize,
-    at: usize,
-    count: u64,
-    tp: &[u8],
-) -> Part {
+fn low_next(w: &mut [u64; 23], lane: Lane, offset: usize, at: usize, count: u64, tp: &[u8]) -> Part
+    requires { ⌜ (fitb (now w) ≡ true) × Tidy (receiverIn (now w) .limit) lane × (length (now tp) ≡ receiverIn (now w) .size) × (4 ≤ at) × (at ≤ length (now tp)) × (offset < 2048) ⌝ }
+    ensures { λ q. ⌜ LowPartAs q (receiverIn (now (w .entry))) count lane offset at (now (tp .entry)) (now (w .entry)) (now (w .exit)) ⌝ }
+{
     let stamp = stamps::own(count);
     match lane::lows(tp, at) {
         Lows::Broken(i) => {
@@ -605,7 +576,10 @@ fn low_next(
 }
 
 // Before ordinary bytes.
-fn before(w: &mut [u64; 23], lane: Lane, count: u64, tp: &[u8]) -> Part {
+fn before(w: &mut [u64; 23], lane: Lane, count: u64, tp: &[u8]) -> Part
+    requires { ⌜ (fitb (now w) ≡ true) × Stands lane (receiverIn (now w)) × (length (now tp) ≡ receiverIn (now w) .size) × (count ≡ countBy (receiverIn (now w))) ⌝ }
+    ensures { λ q. ⌜ PartAs q (receiverIn (now (w .entry))) count lane (now (tp .entry)) (now (w .entry)) (now (w .exit)) ⌝ }
+{
     let spot = spot_of(w, lane, tp);
     match spot {
         Spot::Other => Part::Told(Swift::Other),
@@ -623,7 +597,10 @@ fn before(w: &mut [u64; 23], lane: Lane, count: u64, tp: &[u8]) -> Part {
     }
 }
 
-fn due(lane: Lane, spot: Spot, tp: &[u8], room: &mut [u8]) -> Met {
+fn due(lane: Lane, spot: Spot, tp: &[u8], room: &mut [u8]) -> Met
+    requires { ⌜ Tidy (length (now room)) lane ⌝ }
+    ensures { λ q. ⌜ DueAs q spot lane (now (tp .entry)) (now (room .entry)) (now (room .exit)) ⌝ }
+{
     match spot {
         Spot::Other => Met::Other,
         Spot::Gone(_) => Met::Other,
@@ -635,7 +612,9 @@ fn due(lane: Lane, spot: Spot, tp: &[u8], room: &mut [u8]) -> Met {
 }
 
 // What is met among ordinary bytes.
-fn ahead(met: Met, count: u64, tp: &[u8], room: &mut [u8]) -> Met {
+fn ahead(met: Met, count: u64, tp: &[u8], room: &mut [u8]) -> Met
+    ensures { λ q. ⌜ OnAs q met count (now (tp .entry)) (now (room .entry)) (now (room .exit)) ⌝ }
+{
     let Met::Reads(at) = met else {
         return met;
     };
@@ -643,7 +622,10 @@ fn ahead(met: Met, count: u64, tp: &[u8], room: &mut [u8]) -> Met {
 }
 
 // Behind what is met.
-fn met_in(w: &mut [u64; 23], met: Met, count: u64, len: usize) -> Swift {
+fn met_in(w: &mut [u64; 23], met: Met, count: u64, len: usize) -> Swift
+    requires { ⌜ (fitb (now w) ≡ true) × TidyMet (receiverIn (now w) .limit) met ⌝ }
+    ensures { λ q. ⌜ BehindMet q met (receiverIn (now (w .entry))) count len (now (w .entry)) (now (w .exit)) ⌝ }
+{
     match met {
         Met::Other => Swift::Other,
         Met::Drops(number) => {
@@ -677,7 +659,10 @@ fn met_in(w: &mut [u64; 23], met: Met, count: u64, len: usize) -> Swift {
 }
 
 // In a lane.
-fn laned(w: &mut [u64; 23], lane: Lane, tp: &[u8], room: &mut [u8]) -> Swift {
+fn laned(w: &mut [u64; 23], lane: Lane, tp: &[u8], room: &mut [u8]) -> Swift
+    requires { ⌜ (fitb (now w) ≡ true) × Stands lane (receiverIn (now w)) × (length (now tp) ≡ receiverIn (now w) .size) × (length (now room) ≡ receiverIn (now w) .limit) ⌝ }
+    ensures { λ q. ⌜ SwiftAs q (receiverIn (now (w .entry))) (now (w .entry)) (now (tp .entry)) (now (room .entry)) (now (w .exit)) (now (room .exit)) ⌝ }
+{
     let count = count_in(w);
     match before(w, lane, count, tp) {
         Part::Told(told) => told,
@@ -690,7 +675,10 @@ fn laned(w: &mut [u64; 23], lane: Lane, tp: &[u8], room: &mut [u8]) -> Swift {
 }
 
 // The next find of the TP.
-pub fn next(w: &mut [u64; 23], tp: &[u8], room: &mut [u8]) -> Swift {
+pub fn next(w: &mut [u64; 23], tp: &[u8], room: &mut [u8]) -> Swift
+    requires { ⌜ fitb (now w) ≡ true ⌝ }
+    ensures { λ q. ⌜ SwiftAs q (receiverIn (now (w .entry))) (now (w .entry)) (now (tp .entry)) (now (room .entry)) (now (w .exit)) (now (room .exit)) ⌝ }
+{
     if room.len() as u64 != w[2] {
         return Swift::Other;
     }
