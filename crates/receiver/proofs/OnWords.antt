@@ -45,6 +45,7 @@ use Rattle.receiver.specs.Turns.{walkAt}
 use Rattle.receiver.specs.Words.{Bytes, fitb, headWords, joined, keptIn, keptWords, phaseIn, phaseWords, placeIn, placeWords, receiverIn, stageIn, stageWords, wordsOf}
 use Rattle.receiver.proofs.LaneAhead.{lost-call}
 use Rattle.receiver.proofs.LaneFirst.{first-as, low-as, low-broken, own-first-at, own-later}
+use Rattle.receiver.proofs.LaneOut.{tidy-as}
 use Rattle.receiver.proofs.TakingUp.{says-small}
 use Rattle.receiver.proofs.Walking.{low-in}
 use Rattle.receiver.proofs.Worded.{fits, streamed}
@@ -274,30 +275,39 @@ module _ (ws : List ℕ) (fit : fitb ws ≡ true) (count : ℕ) (stage : Stage) 
       ∙ ap (λ (x : ℕ). joined (getD ws 0 0) (getD ws 1 0 % 256) (getD ws 2 0) count at (x ∷ o ∷ []) p k) e
       ∙ ap (λ (x : ℕ). joined (getD ws 0 0) (getD ws 1 0 % 256) (getD ws 2 0) count at (getD (stageWords stage) 0 0 ∷ x ∷ []) p k) f
 
-  pub put-lost : getD ws 0 0 ∷ getD ws 1 0 ∷ getD ws 2 0 ∷ count ∷ at ∷ s ∷ o ∷ 0 ∷ 0 ∷ 0 ∷ 0 ∷ 0 ∷ 0 ∷ 0 ∷ 0 ∷ 0 ∷ 0 ∷ 0 ∷ 0 ∷ 0 ∷ 0 ∷ 0 ∷ 0 ∷ []
-      ≡ wordsOf (inLane (receiverIn ws) count L.Lost stage at)
+  abbrev Puts : List ℕ → Lane → Type 0
+  Puts w l = (w ≡ wordsOf (inLane (receiverIn ws) count l stage at)) × Bytes (inLane (receiverIn ws) count l stage at)
+
+  puts : (l x : Lane) (w : List ℕ) → l ≡ x → w ≡ wordsOf (inLane (receiverIn ws) count x stage at) → Bytes (inLane (receiverIn ws) count x stage at) → Puts w l
+  puts l x w q e b = subst (Puts w) (sym q) (e, b)
+
+  pub put-lost : (l : Lane) → l ≡ L.Lost
+      → Puts (getD ws 0 0 ∷ getD ws 1 0 ∷ getD ws 2 0 ∷ count ∷ at ∷ s ∷ o ∷ 0 ∷ 0 ∷ 0 ∷ 0 ∷ 0 ∷ 0 ∷ 0 ∷ 0 ∷ 0 ∷ 0 ∷ 0 ∷ 0 ∷ 0 ∷ 0 ∷ 0 ∷ 0 ∷ []) l
   unfolding wordsOf
-  put-lost = row (phaseWords Lost (receiverIn ws .walk .began)) (keptWords Empty)
+  put-lost l q = puts l L.Lost _ q (row (phaseWords Lost (receiverIn ws .walk .began)) (keptWords Empty)) (record { phase = omega arith; kept = omega arith })
 
-  pub put-idle : getD ws 0 0 ∷ getD ws 1 0 ∷ getD ws 2 0 ∷ count ∷ at ∷ s ∷ o ∷ 1 ∷ 0 ∷ 0 ∷ 0 ∷ 0 ∷ 0 ∷ 0 ∷ 0 ∷ 0 ∷ 0 ∷ 0 ∷ 0 ∷ 0 ∷ 0 ∷ 0 ∷ 0 ∷ []
-      ≡ wordsOf (inLane (receiverIn ws) count L.Idle stage at)
+  pub put-idle : (l : Lane) → l ≡ L.Idle
+      → Puts (getD ws 0 0 ∷ getD ws 1 0 ∷ getD ws 2 0 ∷ count ∷ at ∷ s ∷ o ∷ 1 ∷ 0 ∷ 0 ∷ 0 ∷ 0 ∷ 0 ∷ 0 ∷ 0 ∷ 0 ∷ 0 ∷ 0 ∷ 0 ∷ 0 ∷ 0 ∷ 0 ∷ 0 ∷ []) l
   unfolding wordsOf headWords
-  put-idle = row (phaseWords (Head 0 0) (receiverIn ws .walk .began)) (keptWords Empty)
+  put-idle l q = puts l L.Idle _ q (row (phaseWords (Head 0 0) (receiverIn ws .walk .began)) (keptWords Empty)) (record { phase = omega arith; kept = omega arith })
 
-  pub put-cut : (p : Place) (n w : ℕ) → 1 ≤ n
-      → getD ws 0 0 ∷ getD ws 1 0 ∷ getD ws 2 0 ∷ count ∷ at ∷ s ∷ o ∷ 1 ∷ n ∷ w ∷ 0 ∷ 0 ∷ 0 ∷ p .stamp .number ∷ p .stamp .byte ∷ p .at ∷ 0 ∷ 0 ∷ 0 ∷ 0 ∷ 0 ∷ 0 ∷ 0 ∷ []
-      ≡ wordsOf (inLane (receiverIn ws) count (L.Cut p n w) stage at)
+  pub put-cut : (l : Lane) (cap : ℕ) (p : Place) (n w : ℕ) → l ≡ L.Cut p n w → Tidy cap l
+      → Puts (getD ws 0 0 ∷ getD ws 1 0 ∷ getD ws 2 0 ∷ count ∷ at ∷ s ∷ o ∷ 1 ∷ n ∷ w ∷ 0 ∷ 0 ∷ 0 ∷ p .stamp .number ∷ p .stamp .byte ∷ p .at ∷ 0 ∷ 0 ∷ 0 ∷ 0 ∷ 0 ∷ 0 ∷ 0 ∷ []) l
   unfolding wordsOf headWords
-  put-cut p n w one =
-      let z : eqb n 0 ≡ false = ne-eqb n 0 (λ (x : n ≡ 0). omega (arith, x, one)) in
-      row (1 ∷ n ∷ w ∷ 0 ∷ 0 ∷ 0 ∷ placeWords p) (keptWords Empty)
-      ∙ ap (λ (x : Bool). joined (receiverIn ws .size) (receiverIn ws .stream) (receiverIn ws .limit) count at (stageWords stage) (cond x (1 ∷ 0 ∷ w ∷ 0 ∷ 0 ∷ 0 ∷ 0 ∷ 0 ∷ 0 ∷ []) (1 ∷ n ∷ w ∷ 0 ∷ 0 ∷ 0 ∷ placeWords p)) (keptWords Empty)) (sym z)
+  put-cut l cap p n w q y =
+      let tidy = tidy-as cap l (L.Cut p n w) q y in
+      let z : eqb n 0 ≡ false = ne-eqb n 0 (λ (x : n ≡ 0). omega (arith, x, tidy .0)) in
+      puts l (L.Cut p n w) _ q
+      (row (1 ∷ n ∷ w ∷ 0 ∷ 0 ∷ 0 ∷ placeWords p) (keptWords Empty)
+      ∙ ap (λ (x : Bool). joined (receiverIn ws .size) (receiverIn ws .stream) (receiverIn ws .limit) count at (stageWords stage) (cond x (1 ∷ 0 ∷ w ∷ 0 ∷ 0 ∷ 0 ∷ 0 ∷ 0 ∷ 0 ∷ []) (1 ∷ n ∷ w ∷ 0 ∷ 0 ∷ 0 ∷ placeWords p)) (keptWords Empty)) (sym z))
+      (record { phase = omega arith; kept = omega arith })
 
-  pub put-busy : (p : Place) (left len c x : ℕ)
-      → getD ws 0 0 ∷ getD ws 1 0 ∷ getD ws 2 0 ∷ count ∷ at ∷ s ∷ o ∷ 3 ∷ c ∷ 0 ∷ (len + left) ∷ x ∷ left ∷ p .stamp .number ∷ p .stamp .byte ∷ p .at ∷ 1 ∷ c ∷ x ∷ len ∷ p .stamp .number ∷ p .stamp .byte ∷ p .at ∷ []
-      ≡ wordsOf (inLane (receiverIn ws) count (L.Busy p left len c x) stage at)
+  pub put-busy : (l : Lane) (p : Place) (left len c x : ℕ) → l ≡ L.Busy p left len c x → c < 256 → x < 256
+      → Puts (getD ws 0 0 ∷ getD ws 1 0 ∷ getD ws 2 0 ∷ count ∷ at ∷ s ∷ o ∷ 3 ∷ c ∷ 0 ∷ (len + left) ∷ x ∷ left ∷ p .stamp .number ∷ p .stamp .byte ∷ p .at ∷ 1 ∷ c ∷ x ∷ len ∷ p .stamp .number ∷ p .stamp .byte ∷ p .at ∷ []) l
   unfolding wordsOf
-  put-busy p left len c x = row (phaseWords (Body (completeOf c (len + left) x) left) p) (keptWords (Of c x p len))
+  put-busy l p left len c x q a b =
+      puts l (L.Busy p left len c x) _ q (row (phaseWords (Body (completeOf c (len + left) x) left) p) (keptWords (Of c x p len)))
+      (record { phase = (a, omega arith, b); kept = a })
 
 -- ---- what a call comes to
 
