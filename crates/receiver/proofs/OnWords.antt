@@ -29,13 +29,14 @@ use Rattle.receiver.specs.declared.swift.Part.{Part}
 use Rattle.receiver.specs.declared.swift.Part.the-variants as P
 use Rattle.receiver.specs.declared.swift.Spot.{Spot}
 use Rattle.receiver.specs.declared.swift.Spot.the-variants as T
+use Rattle.receiver.specs.declared.swift.Swift.{Swift}
 use Rattle.receiver.specs.declared.swift.Swift.the-variants as S
 use Rattle.receiver.specs.declared.walk.Kept.the-variants.{Empty, Of}
 use Rattle.receiver.specs.declared.walk.Phase.{Phase}
 use Rattle.receiver.specs.declared.walk.Phase.the-variants.{Lost, Head, Body}
 use Rattle.receiver.specs.declared.walk.Walk.{Walk}
 use Rattle.receiver.specs.Call.{Gave, Gives, callOf, countIn}
-use Rattle.receiver.specs.InSwift.{BehindMet, Done, DueAs, GoesAs, LaneAs, Lent, LowPartAs, OnAs, PartAs, SpotAs, Stands, TidyMet, countBy, firstSpot, madeOf, plainSpot}
+use Rattle.receiver.specs.InSwift.{BehindMet, Done, DueAs, GoesAs, LaneAs, Lent, LowPartAs, OnAs, PartAs, PartBy, SpotAs, Stands, Suits, SwiftAs, TidyMet, countBy, firstSpot, madeOf, plainSpot}
 use Rattle.receiver.specs.Lanes.{AheadAs, Drops, FirstAs, Lends, LowAs, MetAs, OutAs, Tidy, callBy, completeOf, endsIn, inLane, lossEnd, stepTo, walkIn}
 use Rattle.receiver.specs.Lows.{lowsOf}
 use Rattle.receiver.specs.Pieces.{noneOf, topOf}
@@ -311,7 +312,7 @@ module _ (ws : List ℕ) (fit : fitb ws ≡ true) (count : ℕ) (stage : Stage) 
 
 -- ---- what a call comes to
 
-pub tidy-met : (b : Receiver) (k : ℕ) (t : Stamp) (g : Gave) (tp m m′ : List ℕ) (x : Met) → MetAs x b k t g tp m m′ → TidyMet (b .limit) x
+tidy-met : (b : Receiver) (k : ℕ) (t : Stamp) (g : Gave) (tp m m′ : List ℕ) (x : Met) → MetAs x b k t g tp m m′ → TidyMet (b .limit) x
 tidy-met b k t g tp m m′ M.Other d = omega arith
 tidy-met b k t g tp m m′ (M.Drops n) d = omega arith
 tidy-met b k t g tp m m′ (M.Ends l) d = d .1
@@ -346,26 +347,22 @@ done : (r : Receiver) (tp m₀ m w : List ℕ) (q : Step) → Gives (callOf r tp
 done r tp m₀ m w q g e b = record { step = q; gives = g; bytes = b; state = e; find = refl; about = refl }
 
 module _ (r : Receiver) (k len : ℕ) (w₀ w : List ℕ) where
-  pub behind-other : BehindMet S.Other M.Other r k len w₀ w₀
-  behind-other tp m₀ m e d = (refl, d)
+  behind-as : (q : Swift) (x y : Met) → x ≡ y → BehindMet q y r k len w₀ w → BehindMet q x r k len w₀ w
+  behind-as q x y e d = subst (λ (z : Met). BehindMet q z r k len w₀ w) (sym e) d
 
-  pub behind-judged : (n : ℕ) → BehindMet S.Other (M.Drops n) r k len w₀ w₀
-  behind-judged n tp m₀ m e d = (refl, d .0)
+  pub behind-ends : (x : Met) (l : Lane) → x ≡ M.Ends l → w ≡ wordsOf (inLane r k l Fresh 0) → Bytes (inLane r k l Fresh 0)
+      → BehindMet (S.Gives F.Nothing (noneOf (startOf (ownOf k)))) x r k len w₀ w
+  behind-ends x l e f b = behind-as (S.Gives F.Nothing (noneOf (startOf (ownOf k)))) x (M.Ends l) e (λ tp m₀ m z d. done r tp m₀ m w (endsIn (inLane r k l Fresh 0) (ownOf k)) (d .0) f b)
 
-  pub behind-reads : (i : ℕ) → BehindMet S.Other (M.Reads i) r k len w₀ w₀
-  behind-reads i tp m₀ m e d = (refl, d .0)
+  pub behind-gives : (x : Met) (c e : ℕ) (p : Place) (n end : ℕ) → x ≡ M.Gives c e p n end → w ≡ wordsOf (inLane r k L.Idle Plain end) → Bytes (inLane r k L.Idle Plain end)
+      → BehindMet (S.Gives (F.Ordinary c n) (record { repaired = e; at = p })) x r k len w₀ w
+  behind-gives x c e p n end g f b =
+      behind-as (S.Gives (F.Ordinary c n) (record { repaired = e; at = p })) x (M.Gives c e p n end) g
+      (λ tp m₀ m z d. done r tp m₀ m w (stepTo (inLane r k L.Idle Plain end) (F.Ordinary c n) (record { repaired = e; at = p })) (d .0) f b)
 
-  pub behind-ends : (l : Lane) → w ≡ wordsOf (inLane r k l Fresh 0) → Bytes (inLane r k l Fresh 0)
-      → BehindMet (S.Gives F.Nothing (noneOf (startOf (ownOf k)))) (M.Ends l) r k len w₀ w
-  behind-ends l f b tp m₀ m e d = done r tp m₀ m w (endsIn (inLane r k l Fresh 0) (ownOf k)) (d .0) f b
-
-  pub behind-gives : (c e : ℕ) (p : Place) (n end : ℕ) → w ≡ wordsOf (inLane r k L.Idle Plain end) → Bytes (inLane r k L.Idle Plain end)
-      → BehindMet (S.Gives (F.Ordinary c n) (record { repaired = e; at = p })) (M.Gives c e p n end) r k len w₀ w
-  behind-gives c e p n end f b tp m₀ m z d = done r tp m₀ m w (stepTo (inLane r k L.Idle Plain end) (F.Ordinary c n) (record { repaired = e; at = p })) (d .0) f b
-
-  pub behind-drops : (n : ℕ) → (n ≡ 12 → ⊥) → w ≡ wordsOf (inLane r k L.Lost Plain len) → Bytes (inLane r k L.Lost Plain len)
+  drops-behind : (n : ℕ) → (n ≡ 12 → ⊥) → w ≡ wordsOf (inLane r k L.Lost Plain len) → Bytes (inLane r k L.Lost Plain len)
       → BehindMet (S.Gives (F.Notice n) (noneOf (startOf (ownOf k)))) (M.Drops n) r k len w₀ w
-  behind-drops n z f b tp m₀ m e d =
+  drops-behind n z f b tp m₀ m e d =
       let x = d .1 in
       let place : x .place ≡ 4 = subst (λ (y : Bool). cond y (0 ≤ 0) (x .place ≡ 4)) (ne-eqb n 12 z) (subst (λ (y : Bool). cond y (0 ≤ 0) (cond (eqb n 12) (0 ≤ 0) (x .place ≡ 4))) (d .2) (x .met)) in
       let there : lossEnd n (x .place) (length tp) ≡ len = ap (λ (y : Bool). cond y (x .place + 6) (length tp)) (ne-eqb n 12 z) ∙ sym e in
@@ -378,6 +375,24 @@ module _ (r : Receiver) (k len : ℕ) (w₀ w : List ℕ) where
         find = sym (x .find);
         about = ap (λ (i : ℕ). noneOf (placeAt (ownOf k) i)) (sym place) ∙ sym (x .about);
       }
+
+  pub behind-drops : (x : Met) (n : ℕ) → x ≡ M.Drops n → (n ≡ 12 → ⊥) → w ≡ wordsOf (inLane r k L.Lost Plain len) → Bytes (inLane r k L.Lost Plain len)
+      → BehindMet (S.Gives (F.Notice n) (noneOf (startOf (ownOf k)))) x r k len w₀ w
+  behind-drops x n g z f b = behind-as (S.Gives (F.Notice n) (noneOf (startOf (ownOf k)))) x (M.Drops n) g (drops-behind n z f b)
+
+-- what is left to a call by value
+module _ (r : Receiver) (k len : ℕ) (w : List ℕ) (x : Met) where
+  pub behind-other : x ≡ M.Other → BehindMet S.Other x r k len w w
+  behind-other e = behind-as r k len w w S.Other x M.Other e (λ tp m₀ m z d. (refl, d))
+
+  pub behind-judged : (n : ℕ) → x ≡ M.Drops n → BehindMet S.Other x r k len w w
+  behind-judged n e = behind-as r k len w w S.Other x (M.Drops n) e (λ tp m₀ m z d. (refl, d .0))
+
+  pub behind-reads : (i : ℕ) → x ≡ M.Reads i → BehindMet S.Other x r k len w w
+  behind-reads i e = behind-as r k len w w S.Other x (M.Reads i) e (λ tp m₀ m z d. (refl, d .0))
+
+pub ends-tidy : (cap : ℕ) (x : Met) (l : Lane) → x ≡ M.Ends l → TidyMet cap x → Tidy cap l
+ends-tidy cap x l e d = subst (TidyMet cap) e d
 
 -- ---- before ordinary bytes
 
@@ -442,3 +457,28 @@ module _ (r : Receiver) (k : ℕ) (l : Lane) (tp w₀ w : List ℕ) (s : Spot) (
 
   pub low-bounds : (o i : ℕ) → s ≡ T.Low o i → (4 ≤ i) × (i ≤ length tp) × (o < 2048)
   low-bounds o i e = let f = spotted (T.Low o i) e (replicate (r .limit) 0) (length-replicate {A = ℕ} (r .limit) 0) in (f .1, f .2, f .3)
+
+-- ---- all of it
+
+module _ (ws w : List ℕ) (k : ℕ) (l : Lane) (tp m₀ m₁ m₂ : List ℕ) (fit : fitb ws ≡ true) (whole : length tp ≡ receiverIn ws .size) (full : length m₀ ≡ receiverIn ws .limit) (p : Part)
+    (part : PartAs p (receiverIn ws) k l tp ws w) where
+  pub laned-told : (q : Swift) → p ≡ P.Told q → SwiftAs q (receiverIn ws) ws tp m₀ w m₀
+  laned-told q e = subst (λ (x : Part). PartBy x (receiverIn ws) k l tp m₀ ws w) e (part m₀ full)
+
+  module _ (s : Spot) (e : p ≡ P.On s) (x y : Met) (due : DueAs x s l tp m₀ m₁) (on : OnAs y x k tp m₁ m₂) where
+    goes : (w ≡ ws) × SpotAs s (receiverIn ws) k l (callOf (receiverIn ws) tp m₀) tp m₀
+    goes = subst (λ (x : Part). PartBy x (receiverIn ws) k l tp m₀ ws w) e (part m₀ full)
+
+    meets : MetAs y (receiverIn ws) k (ownOf k) (callOf (receiverIn ws) tp m₀) tp m₀ m₂
+    meets =
+        let r = receiverIn ws in
+        let suits : Suits r tp m₀ = record { size = fits ws fit .able .size; whole = whole; full = full } in
+        on r (callOf r tp m₀) m₀ suits (due r k (callOf r tp m₀) suits (goes .1))
+
+    pub laned-tidy : (fitb w ≡ true) × TidyMet (receiverIn w .limit) y
+    laned-tidy =
+        subst (λ (v : List ℕ). (fitb v ≡ true) × TidyMet (receiverIn v .limit) y) (sym (goes .0))
+        (fit, tidy-met (receiverIn ws) k (ownOf k) (callOf (receiverIn ws) tp m₀) tp m₀ m₂ y meets)
+
+    pub laned-behind : (q : Swift) (len : ℕ) (w′ : List ℕ) → len ≡ length tp → BehindMet q y (receiverIn w) k len w w′ → SwiftAs q (receiverIn ws) ws tp m₀ w′ m₂
+    laned-behind q len w′ z d = subst (λ (v : List ℕ). BehindMet q y (receiverIn v) k len v w′) (goes .0) d tp m₀ m₂ z meets
