@@ -1,9 +1,6 @@
 -- `receiver::swift::ahead` meets its contract: among ordinary bytes.
 -- Assumes nothing.
 use Rattle.receiver.proofs.OnWords.{on-reads}
-use mathlib.Core.Path.{subst}
-use Rattle.receiver.specs.declared.Stamp.{Stamp}
-use Rattle.receiver.specs.Lanes.{AheadAs}
 use borrow.Author.Needs.{needs}
 use Rattle.receiver.proofs.swift.ahead.Statement.{statement}
 use Rattle.receiver.proofs.swift.ahead.Tie as tie

@@ -1,6 +1,5 @@
 -- `receiver::swift::low_stage` meets its contract.
 -- Assumes nothing.
-use borrow.Author.Needs.{needs}
 use Rattle.receiver.proofs.swift.low_stage.Statement.{statement}
 use Rattle.receiver.proofs.swift.low_stage.Tie as tie
 
