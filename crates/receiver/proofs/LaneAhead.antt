@@ -133,28 +133,35 @@ drops b k t at tp m l s v w g e i d =
         receiver = refl;
         ends = lost-call b k t at tp m l (i + 6) (b .walk .began) (d .sound .at);
       },
+      refl,
     )
 
 -- the others drop the rest of the TP
 abbrev pub DropsRest : ℕ → ℕ → Type 0
 DropsRest n i = (9 < n) × (eqb n 12 ≡ false) × LossAt n i
 
+pub drops-at : (b : Receiver) (k : ℕ) (t : Stamp) (at : ℕ) (tp m : List ℕ) → Lends b at tp m → (s : Stage) (v : Walk) (g : Gave) (n i : ℕ) → DropsRest n i
+    → Gives g (stepOf (madeOf b k s v) Plain (length tp) Lost Empty (F.Notice n) (placeAt t i)) tp m → (d : Drops b k t n g tp m) × (d .place ≡ i)
+unfolding stepped
+drops-at b k t at tp m l s v g n i f q =
+    let lost = inLane b k L.Lost Plain (length tp) in (
+      record {
+        step = stepTo lost (F.Notice n) (noneOf (placeAt t i));
+        gives = record { same = q .same; able = record { size = l .size; walk = record { at = q .able .walk .at; phase = omega arith }; stage = omega arith } };
+        find = refl;
+        large = f .0;
+        place = i;
+        met = f .2;
+        about = refl;
+        receiver = ap (λ (x : Bool). inLane b k L.Lost Plain (cond x (i + 6) (length tp))) (sym (f .1));
+        ends = lost-call b k t at tp m l (length tp) (b .walk .began) (omega arith);
+      },
+      refl,
+    )
+
 pub drops-rest : (b : Receiver) (k : ℕ) (t : Stamp) (at : ℕ) (tp m : List ℕ) → Lends b at tp m → (s : Stage) (v : Walk) (g : Gave) (n i : ℕ) → DropsRest n i
     → Gives g (stepOf (madeOf b k s v) Plain (length tp) Lost Empty (F.Notice n) (placeAt t i)) tp m → Drops b k t n g tp m
-unfolding stepped
-drops-rest b k t at tp m l s v g n i f q =
-    let lost = inLane b k L.Lost Plain (length tp) in
-    record {
-      step = stepTo lost (F.Notice n) (noneOf (placeAt t i));
-      gives = record { same = q .same; able = record { size = l .size; walk = record { at = q .able .walk .at; phase = omega arith }; stage = omega arith } };
-      find = refl;
-      large = f .0;
-      place = i;
-      met = f .2;
-      about = refl;
-      receiver = ap (λ (x : Bool). inLane b k L.Lost Plain (cond x (i + 6) (length tp))) (sym (f .1));
-      ends = lost-call b k t at tp m l (length tp) (b .walk .began) (omega arith);
-    }
+drops-rest b k t at tp m l s v g n i f q = drops-at b k t at tp m l s v g n i f q .0
 
 -- ---- headers
 

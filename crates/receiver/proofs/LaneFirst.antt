@@ -34,7 +34,7 @@ use Rattle.receiver.specs.Call.{Gave, Gives, always, callAs, callOf, cou
 use Rattle.receiver.specs.Forecast.{outset}
 use Rattle.receiver.specs.InSwift.{madeOf}
 use Rattle.receiver.specs.Kind.{kindOf}
-use Rattle.receiver.specs.Lanes.{FirstAs, Lends, LowAs, Tidy, callBy, inLane, topIn}
+use Rattle.receiver.specs.Lanes.{Drops, FirstAs, Lends, LowAs, Tidy, callBy, inLane, topIn}
 use Rattle.receiver.specs.Low.{llep, wire}
 use Rattle.receiver.specs.Lows.{andThen, lows, lowsOf, oneOf, passedOf}
 use Rattle.receiver.specs.Pieces.{stepOf, topOf}
@@ -42,7 +42,7 @@ use Rattle.receiver.specs.Place.{countOf, ownOf, placeAt, placed, startO
 use Rattle.receiver.specs.State.{frameOf, from}
 use Rattle.receiver.specs.Turns.{walkAt}
 use Rattle.receiver.proofs.Calling.{drop-gives}
-use Rattle.receiver.proofs.LaneAhead.{drops-rest}
+use Rattle.receiver.proofs.LaneAhead.{drops-at}
 use Rattle.receiver.proofs.LaneOut.{settings-only}
 use Rattle.receiver.proofs.Laning.{StageAt, at-in, lane-able}
 use Rattle.receiver.proofs.TakingUp.{drops-small, fresh-top, freshBy}
@@ -140,6 +140,17 @@ low-last : (tp : List ℕ) (at : ℕ) → LastsIf (lowsOf tp at)
 unfolding lowsOf
 low-last tp at = lows-last (suc (length tp)) tp at
 
+-- 11 is told where the LLEP stands
+pub low-broken : (b : Receiver) (k : ℕ) (l : Lane) (o at : ℕ) (t : Stamp) (tp m : List ℕ) → Lends b at tp m → (i : ℕ) → lowsOf tp at ≡ W.Broken i
+    → (d : Drops b k t 11 (callBy t (inLane b k l (Low o) at) tp m) tp m) × (d .place ≡ i)
+low-broken b k l o at t tp m d i e =
+    let r = inLane b k l (Low o) at in
+    let s = stepOf r Plain (length tp) Lost Empty (F.Notice 11) (placeAt t i) in
+    let inside = low-in true tp at (W.Broken i) (d .within) e in
+    let is : lowCall (W.Broken i) r t o tp m ≡ callBy t r tp m = ap (λ (x : Lows). lowCall x r t o tp m) (sym e) ∙ sym (low-is b k t tp m (d .full) (d .whole) l o at) in
+    drops-at b k t at tp m d (Low o) (r .walk) (callBy t r tp m) 11 i (omega arith, refl, omega arith)
+    (subst (λ (g : Gave). Gives g s tp m) is (drop-gives r t tp m (d .size) (d .whole) (d .full) 11 (placeAt t i) i (inside .1)))
+
 pub low-as : (b : Receiver) (k : ℕ) (l : Lane) (o at : ℕ) (t : Stamp) (tp m : List ℕ) → Lends b at tp m → Tidy (b .limit) l → 4 ≤ at → o < 2048
     → LowAs (lowsOf tp at) b k l o t (callBy t (inLane b k l (Low o) at) tp m) tp m
 unfolding stepped
@@ -156,11 +167,7 @@ low-as b k l o at t tp m d y payload small = by (lowsOf tp at) refl
     staged false i p = (small, p)
 
     by : (x : Lows) → lowsOf tp at ≡ x → LowAs x b k l o t (callBy t r tp m) tp m
-    by (W.Broken i) e =
-        let s = stepOf r Plain (length tp) Lost Empty (F.Notice 11) (placeAt t i) in
-        let inside = low-in true tp at (W.Broken i) (d .within) e in
-        drops-rest b k t at tp m d (Low o) (r .walk) (callBy t r tp m) 11 i (omega arith, refl, omega arith)
-        (subst (λ (g : Gave). Gives g s tp m) (is (W.Broken i) e) (drop-gives r t tp m (d .size) (d .whole) (d .full) 11 (placeAt t i) i (inside .1)))
+    by (W.Broken i) e = low-broken b k l o at t tp m d i e .0
     by (W.End i) e = due-is b k t tp m (d .full) (d .whole) l o i ∙ low-in-lane b k t tp m l (Due o) (Low o) i at (W.End i) o ∙ is (W.End i) e
     by (W.Gives f c i more end) e =
         let s = cond more (Low o) (Due o) in
@@ -197,6 +204,30 @@ own-first b k l tp m f full = by (eqb (length tp) (b .size)) (topOf (b .stream) 
     by true (Says low o) e g other =
         let whole = eqb-true (length tp) (b .size) e in
         sym (first-is b k l (stampsOf r) tp m (Says low o) full whole g) ∙ first-is b k l (always (ownOf (countOf k))) tp m (Says low o) full whole g
+
+-- wherever the walk stood
+pub own-first-at : (b : Receiver) (k : ℕ) (l : Lane) (at : ℕ) (tp m : List ℕ) → length tp ≡ b .size → (topOf (b .stream) tp ≡ Elsewhere → ⊥) → length m ≡ b .limit
+    → callOf (inLane b k l Fresh at) tp m ≡ callBy (ownOf (countOf k)) (inLane b k l Fresh 0) tp m
+unfolding callOf
+own-first-at b k l at tp m whole f full = by (topOf (b .stream) tp) refl f
+  where
+    r : Receiver
+    r = inLane b k l Fresh at
+
+    t : Stamp
+    t = ownOf (countOf k)
+
+    is : (q : Top) → topOf (b .stream) tp ≡ q → callAs r (stampsOf r) tp m ≡ freshBy q r (stampsOf r) tp m
+    is q e = sym (call-is r (stampsOf r) tp m full whole) ∙ sym (fresh-top r (stampsOf r) tp m) ∙ ap (λ (x : Top). freshBy x r (stampsOf r) tp m) e
+
+    moved-to : (low : Bool) (o : ℕ) → payloadCall low (inLane b (countOf k) l Fresh at) t o tp m ≡ payloadCall low (inLane b (countOf k) l Fresh 0) t o tp m
+    moved-to true o = low-in-lane b (countOf k) t tp m l Fresh Fresh at 0 (lowsOf tp 4) o
+    moved-to false o = low-in-lane b (countOf k) t tp m l Fresh Fresh at 0 (W.End 4) o
+
+    by : (q : Top) → topOf (b .stream) tp ≡ q → (q ≡ Elsewhere → ⊥) → callAs r (stampsOf r) tp m ≡ callBy t (inLane b k l Fresh 0) tp m
+    by Elsewhere e other = absurd (other refl)
+    by (Dropped n) e other = is (Dropped n) e ∙ first-is b k l (always t) tp m (Dropped n) full whole e
+    by (Says low o) e other = is (Says low o) e ∙ moved-to low o ∙ first-is b k l (always t) tp m (Says low o) full whole e
 
 -- a later call, which counts nothing
 pub own-later : (b : Receiver) (k : ℕ) (l : Lane) (s : Stage) (at : ℕ) (tp m : List ℕ) → countIn s k ≡ k

@@ -88,6 +88,16 @@ outside-drops o at len n e = by (eqb o 2047) (leb len (o + 4)) (ltb (o + 4) at) 
     by false false true e = let q : 21 ≡ n = cc in subst (λ (i : ℕ). DropsRest i 4) q (omega arith, refl, refl)
     by false false false e = let q : _≡_ {A = ℕ} 0 1 = cc in absurd (omega arith)
 
+outside-plain : (o at len n : ℕ) → placeOf o at len ≡ Outside n → eqb n 11 ≡ false
+unfolding placeOf
+outside-plain o at len n e = by (eqb o 2047) (leb len (o + 4)) (ltb (o + 4) at) e
+  where
+    by : (x y z : Bool) → cond x (Behind (len - at)) (cond y (Outside 10) (cond z (Outside 21) (Behind (o + 4 - at)))) ≡ Outside n → eqb n 11 ≡ false
+    by true y z e = let q : _≡_ {A = ℕ} 0 1 = cc in absurd (omega arith)
+    by false true z e = let q : 10 ≡ n = cc in subst (λ (i : ℕ). eqb i 11 ≡ false) q refl
+    by false false true e = let q : 21 ≡ n = cc in subst (λ (i : ℕ). eqb i 11 ≡ false) q refl
+    by false false false e = let q : _≡_ {A = ℕ} 0 1 = cc in absurd (omega arith)
+
 module _ (b : Receiver) (k : ℕ) (t : Stamp) (o n : ℕ) (tp m : List ℕ) (w : Walk) (d : Lends b (w .at) tp m) (l : Lent (madeOf b k (Due o) w) (w .at) tp) where
   abbrev c : Receiver
   c = madeOf b k (Due o) w
@@ -150,7 +160,7 @@ lane-lent b k o at (L.Busy g left len c e) tp m d p y =
 -- ---- past the payload, or before the low-latency part's end
 
 pub out-outside : (l : Lane) (o at n : ℕ) (tp m : List ℕ) → Tidy (length m) l → Outside n ≡ placeOf o at (length tp) → OutAs (M.Drops n) l o at tp m m
-out-outside l o at n tp m y e = λ b k t d p small. (refl, by l y b k t d (lane-lent b k o at l tp m d p y))
+out-outside l o at n tp m y e = λ b k t d p small. (refl, by l y b k t d (lane-lent b k o at l tp m d p y), outside-plain o at (length tp) n (sym e))
   where
     by : (l : Lane) → Tidy (length m) l → (b : Receiver) (k : ℕ) (t : Stamp) → Lends b at tp m → Lent (inLane b k l (Due o) at) at tp
         → Drops b k t n (callBy t (inLane b k l (Due o) at) tp m) tp m

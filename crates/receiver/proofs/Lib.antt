@@ -56,3 +56,4 @@ pub mod LaneOut
 pub mod LaneFirst
 pub mod Laned
 pub mod PassingOver
+pub mod OnWords

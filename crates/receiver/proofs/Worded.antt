@@ -142,6 +142,16 @@ kept-bytes s c e n g = go (eqb s 0)
     go true = omega arith
     go false = byte c
 
+-- words that pass name a stream
+pub streamed : (ws : List ℕ) → fitb ws ≡ true → getD ws 1 0 ≤ 15
+unfolding fitb openedb
+streamed ws e =
+    let stream = getD ws 1 0 in
+    let o₄ = left _ _ e in
+    let o₃ = right (leb 16 (getD ws 0 0)) _ o₄ in
+    let o₂ = right (leb (getD ws 0 0) 2051) _ o₃ in
+    leb-true stream 15 (left (leb stream 15) _ o₂)
+
 -- WORDS THAT PASS give a receiver that fits
 pub fits : (ws : List ℕ) → fitb ws ≡ true → Fit (receiverIn ws)
 unfolding fitb openedb receiverIn

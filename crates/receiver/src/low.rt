@@ -10,7 +10,7 @@ use crate::Find;
 use crate::Told;
 use crate::kind;
 use crate::kind::Kind;
-use crate::walk;
+use crate::stride;
 use golay::End;
 use wire::Header;
 use wire::Read;
@@ -86,7 +86,7 @@ pub fn item(tp: &[u8], at: usize) -> Llep
     if tp.len() - at < 7 {
         return Llep::Broken;
     }
-    match wire::read_header(walk::six(tp, at)) {
+    match stride::read_at(tp, at) {
         Read::Beyond => Llep::Broken,
         Read::Whole(h) => closed(tp, at, h),
     }

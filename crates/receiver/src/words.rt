@@ -14,7 +14,7 @@ use crate::walk::Phase;
 use crate::walk::Walk;
 use wire::Header;
 
-fn wide(b: u8) -> u64
+pub fn wide(b: u8) -> u64
     ensures { λ r. ⌜ (r ≡ b) × (b < 256) ⌝ }
 {
     b as u64

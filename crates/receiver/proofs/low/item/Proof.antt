@@ -1,6 +1,6 @@
 -- `receiver::low::item` meets its contract: the four ways for an LLEP to be broken, in order.
 -- Assumes nothing.
-use mathlib.Core.Path.{sym, _∙_}
+use mathlib.Core.Path.{refl, sym, _∙_}
 use native.Mathlib.Omega.{arith}
 use borrow.Author.Needs.{needs}
 use Rattle.receiver.proofs.Walking.{item-beyond, item-short, item-whole, read-few}
@@ -15,11 +15,8 @@ returns c =
     let a = c .before .before .args in
     item-short (a .tp .now) (a .at) (c .if1 .taken)
 
-six-requires : tie.Need-six-requires
-six-requires c κs = search needs
-
-read-header-requires : tie.Need-read-header-requires
-read-header-requires c κs = search needs
+read-at-requires : tie.Need-read-at-requires
+read-at-requires c κs = search needs
 
 enum-told : tie.Need-enum-told
 enum-told c = search needs
@@ -29,19 +26,19 @@ enum-known-h c = search needs
 
 closed-requires : tie.Need-closed-requires
 closed-requires c κs =
-    let b = c .before .before .before .before .before .if1 .left in
-    let e = sym (c .before .before .before .read-header .ensures) ∙ c .before .h .given .1 in
-    (omega arith, read-few (c .before .before .before .before .six .result) _ e)
+    let b = c .before .before .before .before .if1 .left in
+    let e = sym (c .before .before .before .read-at .ensures) ∙ c .before .h .given .1 in
+    (omega arith, read-few _ _ e)
 
 returns-2 : tie.Need-returns-2
 returns-2 c =
-    let a = c .before .before .before .before .before .before .args in
-    item-beyond (a .tp .now) (a .at) (c .before .before .before .six .result) (c .before .before .before .before .if1 .left) (c .before .before .before .six .ensures) (sym (c .before .before .read-header .ensures) ∙ c .enum-told .given .1)
+    let a = c .before .before .before .before .before .args in
+    item-beyond (a .tp .now) (a .at) _ (c .before .before .before .if1 .left) refl (sym (c .before .before .read-at .ensures) ∙ c .enum-told .given .1)
 
 returns-3 : tie.Need-returns-3
 returns-3 c =
-    let a = c .before .before .before .before .before .before .before .before .args in
-    c .closed .ensures ∙ item-whole (a .tp .now) (a .at) (c .before .before .before .before .before .six .result) _ (c .before .before .before .before .before .before .if1 .left) (c .before .before .before .before .before .six .ensures) (sym (c .before .before .before .before .read-header .ensures) ∙ c .before .before .h .given .1)
+    let a = c .before .before .before .before .before .before .before .args in
+    c .closed .ensures ∙ item-whole (a .tp .now) (a .at) _ _ (c .before .before .before .before .before .if1 .left) refl (sym (c .before .before .before .before .read-at .ensures) ∙ c .before .before .h .given .1)
 
 pub item-spec : {M : Type 1} → statement M
 item-spec =
@@ -49,8 +46,7 @@ item-spec =
     (tie.spec
     sub-if1
     returns
-    six-requires
-    read-header-requires
+    read-at-requires
     enum-told
     enum-known-h
     closed-requires
