@@ -13,6 +13,7 @@ pub mod lane;
 mod low;
 mod outset;
 mod pieces;
+pub mod series;
 mod stages;
 mod stamps;
 mod stride;

@@ -87,7 +87,7 @@ fn look_ahead(start: usize, tp: &[u8], room: &mut [u8]) -> Free
     Free::Whole { header, from, end }
 }
 
-fn begin(stream: u8, tp: &[u8]) -> Begun
+pub fn begin(stream: u8, tp: &[u8]) -> Begun
     requires { ⌜ 4 ≤ length (now tp) ⌝ }
     ensures { λ r. ⌜ BehindAs r stream (now (tp .entry)) ⌝ }
 {
@@ -132,7 +132,7 @@ fn take_up(r: Receiver, tp: &[u8]) -> From
 }
 
 // The words of a receiver of r's settings.
-fn put(w: &mut [u64; 23], r: Receiver, count: u64, stage: Stage, walk: Walk)
+pub fn put(w: &mut [u64; 23], r: Receiver, count: u64, stage: Stage, walk: Walk)
     ensures { λ _. ⌜ now (w .exit) ≡ wordsOf (madeOf r count stage walk) ⌝ }
     ensures { λ _. ⌜ Bytes (madeOf r count stage walk) ⌝ }
 {
@@ -147,7 +147,7 @@ fn put(w: &mut [u64; 23], r: Receiver, count: u64, stage: Stage, walk: Walk)
 }
 
 // Between two EPs with nothing kept; where one began nobody looks.
-fn between(at: usize) -> Walk
+pub fn between(at: usize) -> Walk
     ensures { λ q. ⌜ q ≡ betweenAt at ⌝ }
 {
     Walk {
@@ -159,7 +159,7 @@ fn between(at: usize) -> Walk
 }
 
 // None: the TP is done.
-fn nothing(count: u64) -> Swift
+pub fn nothing(count: u64) -> Swift
     ensures { λ q. ⌜ q ≡ S.Gives F.Nothing (noneOf (startOf (ownOf count))) ⌝ }
 {
     let at = stamps::start(stamps::own(count));
@@ -403,7 +403,7 @@ fn is_idle(w: &[u64; 23]) -> bool
 }
 
 // Before a TP in data, by the words; the compiler then reads no others.
-fn is_busy(w: &[u64; 23]) -> bool {
+pub fn is_busy(w: &[u64; 23]) -> bool {
     if w[7] != 3 {
         return false;
     }
