@@ -25,6 +25,7 @@ pub mod Words
 pub mod InWalk
 pub mod InStride
 pub mod InSwift
+pub mod InSeries
 pub mod InLanes
 pub mod InOutset
 pub mod InStages

@@ -1,5 +1,11 @@
 // A call on a receiver's words in a series of intact fragments: where its first EP stands between two EPs, and before a TP in its data. Data go
 // to the room as far as nothing is to be judged; what is left then is the same call from there, by value.
+ghost use mathlib.Core.Path.{_≡_};
+ghost use mathlib.Core.Bool.{true};
+ghost use Prim.Native.Nat.{_≤_};
+ghost use lib.ListN.{length, getD};
+ghost use Rattle.receiver.specs.Words.{fitb, receiverIn};
+ghost use Rattle.receiver.specs.InSeries.{FirstAt, LaterAt, RunsAs, Runs, LentBy, ChainAs, Leaves, SeriesAs};
 use crate::About;
 use crate::Find;
 use crate::Place;
@@ -56,7 +62,10 @@ pub enum Chain {
 }
 
 // The first EP of a series at `at`, of at most so many data. Its first byte ends in the bits 01.
-fn first_at(tp: &[u8], at: usize, most: usize) -> Read {
+fn first_at(tp: &[u8], at: usize, most: usize) -> Read
+    requires { ⌜ at ≤ length (now tp) ⌝ }
+    ensures { λ r. ⌜ FirstAt (now (tp .entry)) at most r ⌝ }
+{
     if tp.len() <= at {
         return Read::Beyond;
     }
@@ -81,8 +90,11 @@ fn first_at(tp: &[u8], at: usize, most: usize) -> Read {
     Read::Whole(h)
 }
 
-// The middle or last EP of this content at `at`, of at most so many data.
-fn later_at(tp: &[u8], at: usize, content: u8, most: usize) -> Read {
+// The last EP of this content at `at`, or a middle that the TP's end cuts, of at most so many data.
+fn later_at(tp: &[u8], at: usize, content: u8, most: usize) -> Read
+    requires { ⌜ (at ≤ length (now tp)) × (1 ≤ content) ⌝ }
+    ensures { λ r. ⌜ LaterAt (now (tp .entry)) at content most r ⌝ }
+{
     let Read::Whole(h) = stride::header_at(tp, at) else {
         return Read::Beyond;
     };
@@ -95,11 +107,20 @@ fn later_at(tp: &[u8], at: usize, content: u8, most: usize) -> Read {
     if most < h.size {
         return Read::Beyond;
     }
+    if h.fragment == 2 {
+        if tp.len() - (at + 6) < h.size {
+            return Read::Whole(h);
+        }
+        return Read::Beyond;
+    }
     Read::Whole(h)
 }
 
 // Between two EPs of a series, of which so many bytes are in the room.
-fn run(tp: &[u8], start: usize, content: u8, first: usize, room: &mut [u8]) -> Course {
+fn run(tp: &[u8], start: usize, content: u8, first: usize, room: &mut [u8]) -> Course
+    requires { ⌜ (start ≤ length (now tp)) × (first ≤ length (now room)) × (1 ≤ content) ⌝ }
+    ensures { λ r. ⌜ RunsAs r (now (tp .entry)) start content first (now (room .entry)) (now (room .exit)) ⌝ }
+{
     let joined = stride::past_middles(tp, start, content, first, room);
     let at = joined.at;
     let len = joined.len;
@@ -125,7 +146,10 @@ fn run(tp: &[u8], start: usize, content: u8, first: usize, room: &mut [u8]) -> C
 }
 
 // Where a series begins, among ordinary bytes between two EPs.
-fn opens(w: &[u64; 23], tp: &[u8], room: &mut [u8]) -> Chain {
+fn opens(w: &[u64; 23], tp: &[u8], room: &mut [u8]) -> Chain
+    requires { ⌜ (fitb (now w) ≡ true) × LentBy (now w) (now tp) (now room) × (getD (now w) 16 0 ≡ 0) ⌝ }
+    ensures { λ q. ⌜ ChainAs q (receiverIn (now (w .entry))) (now (tp .entry)) (now (room .entry)) (now (room .exit)) ⌝ }
+{
     if w[5] != 3 {
         return Chain::No;
     }
@@ -162,11 +186,18 @@ fn opens(w: &[u64; 23], tp: &[u8], room: &mut [u8]) -> Chain {
 }
 
 // Before a TP without low-latency part in data of a first or a middle EP, which end in it.
-fn goes_on(w: &[u64; 23], tp: &[u8], room: &mut [u8]) -> Chain {
+fn goes_on(w: &[u64; 23], tp: &[u8], room: &mut [u8]) -> Chain
+    requires { ⌜ LentBy (now w) (now tp) (now room) ⌝ }
+    ensures { λ q. ⌜ ChainAs q (receiverIn (now (w .entry))) (now (tp .entry)) (now (room .entry)) (now (room .exit)) ⌝ }
+{
     let r = words::receiver_in(w);
     let v = r.walk;
+    let stage = r.stage;
     let phase = v.phase;
     let kept = v.kept;
+    let Stage::Fresh = stage else {
+        return Chain::No;
+    };
     let Phase::Body { header, left } = phase else {
         return Chain::No;
     };
@@ -179,10 +210,16 @@ fn goes_on(w: &[u64; 23], tp: &[u8], room: &mut [u8]) -> Chain {
     else {
         return Chain::No;
     };
-    if header.fragment == 0 {
+    if header.fragment < 1 {
         return Chain::No;
     }
-    if header.fragment == 3 {
+    if 2 < header.fragment {
+        return Chain::No;
+    }
+    if content < 1 {
+        return Chain::No;
+    }
+    if 0xFFFF_FFFF < repaired {
         return Chain::No;
     }
     let Begun::Behind(n) = swift::begin(r.stream, tp) else {
@@ -206,7 +243,10 @@ fn goes_on(w: &[u64; 23], tp: &[u8], room: &mut [u8]) -> Chain {
     }
 }
 
-fn chain_of(w: &[u64; 23], tp: &[u8], room: &mut [u8]) -> Chain {
+fn chain_of(w: &[u64; 23], tp: &[u8], room: &mut [u8]) -> Chain
+    requires { ⌜ (fitb (now w) ≡ true) × LentBy (now w) (now tp) (now room) ⌝ }
+    ensures { λ q. ⌜ ChainAs q (receiverIn (now (w .entry))) (now (tp .entry)) (now (room .entry)) (now (room .exit)) ⌝ }
+{
     if w[16] == 0 {
         return opens(w, tp, room);
     }
@@ -225,7 +265,10 @@ fn course_of(
     from: usize,
     left: usize,
     room: &mut [u8],
-) -> Course {
+) -> Course
+    requires { ⌜ (at ≤ length (now tp)) × (len ≤ length (now room)) × (1 ≤ content) ⌝ }
+    ensures { λ q. ⌜ Runs q (now (tp .entry)) at content len header from left (now (room .entry)) (now (room .exit)) ⌝ }
+{
     if 0 < left {
         return Course::Cut {
             header,
@@ -246,7 +289,9 @@ fn behind(
     repaired: u64,
     first: Place,
     course: Course,
-) -> Swift {
+) -> Swift
+    ensures { λ q. ⌜ Leaves q course r count content repaired first (now (w .exit)) ⌝ }
+{
     match course {
         Course::Stops { at, len } => {
             let kept = Kept::Of {
@@ -316,7 +361,10 @@ fn behind(
 }
 
 // The next find of the TP, or the same call from further on.
-pub fn next(w: &mut [u64; 23], tp: &[u8], room: &mut [u8]) -> Swift {
+pub fn next(w: &mut [u64; 23], tp: &[u8], room: &mut [u8]) -> Swift
+    requires { ⌜ fitb (now w) ≡ true ⌝ }
+    ensures { λ q. ⌜ SeriesAs q (receiverIn (now (w .entry))) (now (tp .entry)) (now (room .entry)) (now (w .exit)) (now (room .exit)) ⌝ }
+{
     if room.len() as u64 != w[2] {
         return Swift::Other;
     }
