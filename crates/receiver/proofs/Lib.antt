@@ -50,6 +50,7 @@ pub mod SinceLoss
 pub mod WordTests
 pub mod Worded
 pub mod Swiftly
+pub mod Serially
 pub mod Laning
 pub mod LaneAhead
 pub mod LaneOut

@@ -67,7 +67,7 @@ module _ (cap : ℕ) (t : Stamp) (tp : List ℕ) where
         rw (e, s .read, o) at c
 
     -- header and data
-    ep-carries : (k′ : Kept) → openedOf (at + 6) h (placeAt t at) k cap ≡ goes (at + 6) (Body h (h .size)) (placeAt t at) k′
+    pub ep-carries : (k′ : Kept) → openedOf (at + 6) h (placeAt t at) k cap ≡ goes (at + 6) (Body h (h .size)) (placeAt t at) k′
         → Carries cap t (between at g k) tp m (bodyTurn tp (at + 6) h (h .size) (placeAt t at) k′) (pasted k′ m (drop (at + 6) tp) (min (h .size) (length tp - (at + 6))))
     unfolding advanceOf roomOf
     ep-carries k′ o =

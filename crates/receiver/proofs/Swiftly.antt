@@ -87,7 +87,7 @@ module _ (r : Receiver) (tp : List ℕ) (l : Lent r tp) where
   -- ---- what ends the call
 
   module _ (m₀ m w : List ℕ) (full : length m₀ ≡ r .limit) (same : length m ≡ length m₀) where
-    reads-gives : (x : Walk) (a : Answer) → Leads (stageCall (r .stage) r c (stampsOf r) tp) c t tp (C.Reads x) → Ends (length m₀) t x tp m₀ a m
+    pub reads-gives : (x : Walk) (a : Answer) → Leads (stageCall (r .stage) r c (stampsOf r) tp) c t tp (C.Reads x) → Ends (length m₀) t x tp m₀ a m
         → Gives (callOf r tp m₀) (tellOf (a .gain) c t (a .walk)) tp m
     unfolding callOf
     reads-gives x a g e = call-reads r (stampsOf r) tp m m₀ (C.Reads x) x a (l .able .size) full (l .whole) g refl e same
@@ -106,7 +106,7 @@ module _ (r : Receiver) (tp : List ℕ) (l : Lent r tp) where
       counted : count ≡ c .count
       counted = k ∙ ap (λ (s : Stage). countIn s (r .count)) (sym (b .stage))
 
-      leads : Leads (stageCall (r .stage) r c (stampsOf r) tp) c t tp (C.Reads x)
+      pub leads : Leads (stageCall (r .stage) r c (stampsOf r) tp) c t tp (C.Reads x)
       leads =
           let f = body-fore h left (length tp - 4) (drop 4 tp) (length-drop 4 tp) in
           let q : foreOf (r .walk .phase) (drop 4 tp) ≡ At n = ap (λ (p : Phase). foreOf p (drop 4 tp)) (b .phase) ∙ sym f ∙ ap At least in
@@ -122,7 +122,7 @@ module _ (r : Receiver) (tp : List ℕ) (l : Lent r tp) where
       pub kept-fits : len + n ≤ length m₀
       kept-fits = let f = sound .phase in omega (arith, f, least)
 
-      carries : Carries (length m₀) t x tp m₀ (bodyTurn tp 4 h left (r .walk .began) (Of cc e g len)) m
+      pub carries : Carries (length m₀) t x tp m₀ (bodyTurn tp 4 h left (r .walk .began) (Of cc e g len)) m
       unfolding advanceOf roomOf
       carries =
           let size = l .able .size in

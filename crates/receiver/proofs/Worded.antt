@@ -257,7 +257,7 @@ roomy-words cap (Head n w) g k f = by-head n w g (RoomyBy cap k) (λ e. rooming 
 roomy-words cap (Judged h) g k f = rooming cap k 0 f
 roomy-words cap (Body h n) g k f = rooming cap k n f
 
-passes : (r : Receiver) → Fit r → fitb (wordsOf r) ≡ true
+pub passes : (r : Receiver) → Fit r → fitb (wordsOf r) ≡ true
 unfolding fitb openedb wordsOf
 passes r h =
     both _ _ (both _ _ (le-leb 16 (r .size) (h .able .size)) (both _ _ (le-leb (r .size) 2051 (h .opens .size)) (both _ _ (le-leb (r .stream) 15 (h .opens .stream)) (both _ _ (le-leb (r .limit) 131072 (h .opens .limit)) (le-leb (r .walk .at) (r .size) (h .able .walk .at))))))
@@ -314,7 +314,7 @@ same-made : (size limit count at : ℕ) {a b : ℕ} {s t : Stage} {p q : Phase} 
     → made size a limit count s at p g k ≡ made size b limit count t at q h l
 same-made size limit count at d e f g h = cc
 
-back-receiver : (r : Receiver) → Fit r → receiverIn (wordsOf r) ≡ plainly r
+pub back-receiver : (r : Receiver) → Fit r → receiverIn (wordsOf r) ≡ plainly r
 unfolding receiverIn wordsOf made
 back-receiver r h =
     let few : r .stream ≤ 15 = h .opens .stream in

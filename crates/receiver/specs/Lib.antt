@@ -27,6 +27,7 @@ pub mod Words
 pub mod InWalk
 pub mod InStride
 pub mod InSwift
+pub mod InSeries
 pub mod InLanes
 pub mod InOutset
 pub mod InStages

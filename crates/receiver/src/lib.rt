@@ -14,6 +14,7 @@ mod low;
 mod outset;
 pub mod over;
 mod pieces;
+pub mod series;
 mod stages;
 mod stamps;
 mod stride;

@@ -29,12 +29,12 @@ use wire::Read;
 
 // Behind middles of the packet that is kept: where in the TP, and how many of its bytes are in the room.
 pub struct Joined {
-    at: usize,
-    len: usize,
+    pub at: usize,
+    pub len: usize,
 }
 
 // The header at `at`, if two intact words stand there.
-fn header_at(tp: &[u8], at: usize) -> Read
+pub fn header_at(tp: &[u8], at: usize) -> Read
     requires { ⌜ at ≤ length (now tp) ⌝ }
     ensures { λ r. ⌜ HeaderAt (now (tp .entry)) at r ⌝ }
 {
@@ -115,7 +115,7 @@ fn middle_at(tp: &[u8], at: usize, content: u8, most: usize) -> Read
 }
 
 // Past middles of the packet of this content, of which so many bytes are in the room.
-fn past_middles(tp: &[u8], start: usize, content: u8, first: usize, room: &mut [u8]) -> Joined
+pub fn past_middles(tp: &[u8], start: usize, content: u8, first: usize, room: &mut [u8]) -> Joined
     requires { ⌜ (start ≤ length (now tp)) × (first ≤ length (now room)) ⌝ }
     ensures { λ r. ⌜ Joins (length (now (room .entry))) (now (tp .entry)) content start first (now (room .entry)) (r .at) (r .len) (now (room .exit)) ⌝ }
 {

@@ -64,7 +64,7 @@ pub enum Begun {
     Behind(usize),
 }
 
-fn begin(stream: u8, tp: &[u8]) -> Begun
+pub fn begin(stream: u8, tp: &[u8]) -> Begun
     requires { ⌜ 4 ≤ length (now tp) ⌝ }
     ensures { λ r. ⌜ BehindAs r stream (now (tp .entry)) ⌝ }
 {
@@ -81,7 +81,7 @@ fn begin(stream: u8, tp: &[u8]) -> Begun
 }
 
 // The words of a receiver of r's settings.
-fn put(w: &mut [u64; 23], r: Receiver, count: u64, stage: Stage, walk: Walk)
+pub fn put(w: &mut [u64; 23], r: Receiver, count: u64, stage: Stage, walk: Walk)
     ensures { λ _. ⌜ now (w .exit) ≡ wordsOf (madeOf r count stage walk) ⌝ }
     ensures { λ _. ⌜ Bytes (madeOf r count stage walk) ⌝ }
 {
@@ -96,7 +96,7 @@ fn put(w: &mut [u64; 23], r: Receiver, count: u64, stage: Stage, walk: Walk)
 }
 
 // Between two EPs with nothing kept; where one began nobody looks.
-fn between(at: usize) -> Walk
+pub fn between(at: usize) -> Walk
     ensures { λ q. ⌜ q ≡ betweenAt at ⌝ }
 {
     Walk {
@@ -108,7 +108,7 @@ fn between(at: usize) -> Walk
 }
 
 // None: the TP is done.
-fn nothing(count: u64) -> Swift
+pub fn nothing(count: u64) -> Swift
     ensures { λ q. ⌜ q ≡ S.Gives F.Nothing (noneOf (startOf (ownOf count))) ⌝ }
 {
     let at = stamps::start(stamps::own(count));
@@ -238,7 +238,7 @@ fn busy(w: &mut [u64; 23], r: Receiver, tp: &[u8], room: &mut [u8]) -> Swift
 }
 
 // Before a TP in data, by the words; the compiler then reads no others.
-fn is_busy(w: &[u64; 23]) -> bool {
+pub fn is_busy(w: &[u64; 23]) -> bool {
     if w[7] != 3 {
         return false;
     }
