@@ -163,26 +163,6 @@ pub fn fits(h: Header, most: usize) -> bool
     h.size <= most
 }
 
-// The complete EP at `at`, of at most so many data. Its first byte ends in the bits 00.
-pub fn complete_at(tp: &[u8], at: usize, most: usize) -> Read
-    requires { ⌜ at ≤ length (now tp) ⌝ }
-    ensures { λ r. ⌜ CompleteAt (now (tp .entry)) at most r ⌝ }
-{
-    if tp.len() <= at {
-        return Read::Beyond;
-    }
-    if tp[at] % 4 != 0 {
-        return Read::Beyond;
-    }
-    let Read::Whole(h) = header_at(tp, at) else {
-        return Read::Beyond;
-    };
-    if fits(h, most) {
-        return Read::Whole(h);
-    }
-    Read::Beyond
-}
-
 // The data of a complete EP that began there, up to its end or the TP's.
 fn taken(tp: &[u8], from: usize, header: Header, began: Place, room: &mut [u8]) -> Turn
     requires { ⌜ (from ≤ length (now tp)) × (header .size ≤ length (now room)) × (kindOf header ≡ Complete) ⌝ }
