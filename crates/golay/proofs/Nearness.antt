@@ -21,6 +21,7 @@ before-even n e = omega arith
 before-odd : (n : ℕ) → n % 2 ≡ 1 → ((n - 1) % 2 ≡ 0) × ((n - 1) / 2 ≡ n / 2)
 before-odd n o = (omega arith, omega arith)
 
+-- n without its lowest one
 abbrev pub without : ℕ → ℕ
 without n = bitAnd n (n - 1)
 
