@@ -5,7 +5,7 @@ ghost use Prim.Native.Nat.{_+_, _<_};
 ghost use lib.ListN.{length};
 ghost use Rattle.receiver.specs.State.{Able};
 ghost use Rattle.block.specs.Block.{put as Block·put};
-ghost use Rattle.index_loop.specs.Walking.{textOf, Found, Onward, Ready, Ahead, Lies, Walked};
+ghost use Rattle.index_loop.specs.Walking.{textOf, Found, Onward, Ready, Ahead, Lies, Walked, Heard, Does};
 
 mod lanes;
 
@@ -133,6 +133,7 @@ fn finds(
     requires { ⌜ Able (first .receiver) ⌝ }
     requires { ⌜ first .from + 8 + length (now tp) < 18446744073709551616 ⌝ }
     ensures { λ r. ⌜ Onward first (length (now (tp .entry))) r ⌝ }
+    ensures { λ r. ⌜ Heard task gone (now (tp .entry)) first (now (room .entry)) (now (out .entry)) r (now (room .exit)) (now (out .exit)) ⌝ }
 {
     let record = first.record;
     let from = first.from;
@@ -187,6 +188,7 @@ fn turn(
     requires { ⌜ Able (run .receiver) ⌝ }
     requires { ⌜ run .from + 8 + length (now «data») < 18446744073709551616 ⌝ }
     ensures { λ r. ⌜ Onward run (length (now («data» .entry))) r ⌝ }
+    ensures { λ r. ⌜ Does said task gone (now («data» .entry)) run (now (room .entry)) (now (out .entry)) r (now (room .exit)) (now (out .exit)) ⌝ }
 {
     if let Record::Packet { length: _ } = said {
         return finds(task, full, gone, run, data, room, out);

@@ -79,7 +79,7 @@ loop-again c =
     let b = c .before .before .before .before .before .before .before .before .before .before .before .before .before .before .before .before .before .pass-all .ensures in
     let w = data-within _ (s .args .block .now) _ (c .before .before .before .before .before .before .before .before .before .before .before .before .before .before .before .before .before .pass-all .result .from) (s .args .till) _ (b .end) (sym (c .before .before .before .before .before .before .before .before .before .before .before .read-record .ensures) ∙ c .before .before .before .before .before .before .before .before .before .said .given .1) (c .before .before .before .before .before .before .before .data-of .ensures) in
     let i = l .inv .0 in
-    let t = c .before .before .before .before .turn .ensures in
+    let t = c .before .before .before .before .turn .ensures .0 in
     (record { able = t .able; from = omega (arith, i .from, b .from, t .from); end = omega (arith, w, t .end) }, (c .before .before .before .room2 .given ∙ c .before .before .before .before .before .before .before .before .before .before .before .before .before .before .before .before .room .given ∙ l .inv .1 .0, c .before .out2 .given ∙ c .before .before .before .before .before .before .before .before .before .before .before .before .before .before .out .given ∙ l .inv .1 .1))
 
 same-length-5 : tie.Need-same-length-5 Inv-loop μ-loop
