@@ -137,6 +137,19 @@ module _ (cap : ℕ) where
         let r : Roomy cap k′ 0 = grown-room cap left 0 k q₀ in
         finish-by cap t tp m′ full′ (kindOf h) (walkAt at (Body h left) g k) m (at + left) g k′ (omega arith) r (omega arith) (sym e)
 
+  -- out of step nothing is looked at
+  pub lost-turned : (t : Stamp) (tp m : List ℕ) (w : Walk) → Sound cap (length tp) w → w .phase ≡ Lost → Carries cap t w tp m (stops (length tp) Lost (w .began) (w .kept) Nothing) m
+  unfolding Carries pullOf shown
+  lost-turned t tp m w s q =
+      let p = s .at in
+      let v : walkAt (w .at) Lost (w .began) (w .kept) ≡ w = ap (λ (p : Phase). walkAt (w .at) p (w .began) (w .kept)) (sym q) in
+      let s′ = rw (← v) at s in
+      rw (← v) (record {
+        same = sym (lost-run wire cap (placed t (w .at) (drop (w .at) tp)) (w .at) (length tp) (heldOf (w .kept) m) m (omega (arith, length-drop (w .at) tp, length-placed t (w .at) (drop (w .at) tp))));
+        sound = record { at = omega arith; phase = s′ .phase };
+        gained = omega arith;
+      })
+
   module _ (t : Stamp) (tp m : List ℕ) (full : length m ≡ cap) (bytes : Bytes tp) where
     header-by : (b : Bool) (at n w : ℕ) (g : Place) (k : Kept) → at ≤ length tp → Fine cap (Head n w) k → ltb (length tp - at) (6 - n) ≡ b
         → Carries cap t (walkAt at (Head n w) g k) tp m
@@ -183,18 +196,6 @@ module _ (cap : ℕ) where
         let s′ = rw (← v) at s in
         rw (← v) (header-by (ltb (length tp - w .at) (6 - n)) (w .at) n x (w .began) (w .kept) (s′ .at) (s′ .phase) refl)
 
-    lost-turned : (w : Walk) → Sound cap (length tp) w → w .phase ≡ Lost → Carries cap t w tp m (stops (length tp) Lost (w .began) (w .kept) Nothing) m
-    unfolding Carries pullOf shown
-    lost-turned w s q =
-        let p = s .at in
-        let v : walkAt (w .at) Lost (w .began) (w .kept) ≡ w = ap (λ (p : Phase). walkAt (w .at) p (w .began) (w .kept)) (sym q) in
-        let s′ = rw (← v) at s in
-        rw (← v) (record {
-          same = sym (lost-run wire cap (placed t (w .at) (drop (w .at) tp)) (w .at) (length tp) (heldOf (w .kept) m) m (omega (arith, length-drop (w .at) tp, length-placed t (w .at) (drop (w .at) tp))));
-          sound = record { at = omega arith; phase = s′ .phase };
-          gained = omega arith;
-        })
-
     body-turned : (w : Walk) (h : Header) (left : ℕ) → Sound cap (length tp) w → w .phase ≡ Body h left
         → Carries cap t w tp m (bodyTurn tp (w .at) h left (w .began) (w .kept)) (pasted (w .kept) m (drop (w .at) tp) (min left (length tp - w .at)))
     unfolding bodyTurn
@@ -222,7 +223,7 @@ module _ (cap : ℕ) where
     advance-carries w s = by (w .phase) refl
       where
         by : (p : Phase) → w .phase ≡ p → Carries cap t w tp m (advanceBy p t (w .at) (w .began) (w .kept) cap tp) (roomBy p (w .at) (w .kept) tp m)
-        by Lost e = lost-turned w s e
+        by Lost e = lost-turned t tp m w s e
         by (Head n x) e = header-turned w n x s e
         by (Judged h) e = admit-turned cap t tp m full w h s e
         by (Body h left) e = body-turned w h left s e

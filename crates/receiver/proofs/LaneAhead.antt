@@ -1,12 +1,12 @@
 -- What a call among ordinary bytes comes to, in lanes: the TP's end in a lane, a packet, or a loss of step; and what stands between two EPs.
 -- Assumes nothing.
 use mathlib.Core.Path.{_≡_, refl, sym, subst, ap, _∙_}
-use mathlib.Core.Bool.{Bool, false, true}
+use mathlib.Core.Bool.{Bool, cond, false, true}
 use mathlib.Core.List.{List}
 use Prim.Native.Nat.{ℕ, _+_, _-_, _≤_, _<_, min}
 use native.Mathlib.Omega.{arith}
 use lib.ListN.{drop, length, take}
-use lib.Dec.{leb}
+use lib.Dec.{eqb, leb}
 use borrow.Author.Tests.{eq-eqb, le-ltb, leb-true, lt-ltb}
 use Rattle.digits.specs.Digits.{number}
 use Rattle.queue.specs.Ring.{copied}
@@ -14,6 +14,7 @@ use Rattle.wire.specs.Reading.{headerIn, intactIn, readOf}
 use Rattle.wire.specs.declared.Header.{Header}
 use Rattle.wire.specs.declared.Read.{Read}
 use Rattle.wire.specs.declared.Read.the-variants.{Beyond, Whole}
+use Rattle.receiver.specs.declared.Find.the-variants as F
 use Rattle.receiver.specs.declared.Place.{Place}
 use Rattle.receiver.specs.declared.Receiver.{Receiver}
 use Rattle.receiver.specs.declared.Stage.{Stage}
@@ -35,13 +36,13 @@ use Rattle.receiver.specs.InLanes.{EntersAs, FitsIf, plainCall}
 use Rattle.receiver.specs.InStride.{Skips, Strides, between}
 use Rattle.receiver.specs.InSwift.{madeOf}
 use Rattle.receiver.specs.InWalk.{Carries, Ends, On, roomOf}
-use Rattle.receiver.specs.Lanes.{AheadAs, Lends, MetAs, completeOf, endsIn, inLane}
-use Rattle.receiver.specs.Pieces.{tellOf}
+use Rattle.receiver.specs.Lanes.{AheadAs, Drops, Lends, LossAt, MetAs, completeOf, endsIn, inLane, stepTo}
+use Rattle.receiver.specs.Pieces.{noneOf, stepOf, tellOf}
 use Rattle.receiver.specs.Place.{placeAt}
 use Rattle.receiver.specs.State.{Sound, pullOf}
 use Rattle.receiver.specs.Turns.{advanceOf, bodyTurn, headerTurn, openedOf, walkAt, wholeOf}
 use Rattle.wire.proofs.Answers.{read-intact-is}
-use Rattle.receiver.proofs.Bodies.{advance-carries, room-length}
+use Rattle.receiver.proofs.Bodies.{advance-carries, lost-turned, room-length}
 use Rattle.receiver.proofs.Calling.{pullOf-none, tell-gives}
 use Rattle.receiver.proofs.Gather.{beyond-read, whole-read}
 use Rattle.receiver.proofs.Heading.{Bytes}
@@ -103,29 +104,57 @@ unfolding callAs
 plain-is b k t at tp m l w = rw (eq-eqb (length m) (b .limit) (l .full), eq-eqb (length tp) (b .size) (l .whole)) refl
 
 -- out of step nothing more is read
-pub lost-call : (b : Receiver) (k : ℕ) (t : Stamp) (at : ℕ) (tp m : List ℕ) → Lends b at tp m → Bytes tp → (j : ℕ) (p : Place) → j ≤ length tp
+pub lost-call : (b : Receiver) (k : ℕ) (t : Stamp) (at : ℕ) (tp m : List ℕ) → Lends b at tp m → (j : ℕ) (p : Place) → j ≤ length tp
     → Gives (plainCall b k t (walkAt j Lost p Empty) tp m) (endsIn (inLane b k L.Lost Fresh 0) t) tp m
-unfolding Carries advanceOf roomOf
-lost-call b k t at tp m l bytes j p q =
+unfolding Carries
+lost-call b k t at tp m l j p q =
     let w = walkAt j Lost p Empty in
     let sound : Sound (length m) (length tp) w = record { at = q; phase = omega arith } in
-    let d : Ends (length m) t w tp m (answerAt (length tp) Lost p Nothing) m = advance-carries (length m) t tp m refl bytes w sound in
+    let d : Ends (length m) t w tp m (answerAt (length tp) Lost p Nothing) m = lost-turned (length m) t tp m w sound refl in
     ends-lost b k t at tp m m l refl Plain w w (plainCall b k t w tp m) (plain-is b k t at tp m l w) (length tp) p d .0
 
--- a notice that puts out of step, and then none
-pub drops : (b : Receiver) (k : ℕ) (t : Stamp) (at : ℕ) (tp m : List ℕ) → Lends b at tp m → Bytes tp → (s : Stage) (v w : Walk) (g : Gave)
-    → ordinaryCall (madeOf b k s v) t (pullOf (length m) t w tp m) ≡ g → (j : ℕ) (p : Place) (n : ℕ) → 9 < n → Ends (length m) t w tp m (answerAt j Lost p (Notice n)) m
-    → MetAs (M.Drops n) b k t g tp m m
-drops b k t at tp m l bytes s v w g e j p n large d = (
-  refl,
-  record {
-    step = tellOf (Notice n) (madeOf b k s v) t (walkAt j Lost p Empty);
-    gives = call-tells b k t at tp m m l refl s v w g e (answerAt j Lost p (Notice n)) d;
-    find = refl;
-    large = large;
-    ends = lost-call b k t at tp m l bytes j p (d .sound .at);
-  },
-)
+-- 12 puts out of step behind the header at i, and then none
+pub drops : (b : Receiver) (k : ℕ) (t : Stamp) (at : ℕ) (tp m : List ℕ) → Lends b at tp m → (s : Stage) (v w : Walk) (g : Gave)
+    → ordinaryCall (madeOf b k s v) t (pullOf (length m) t w tp m) ≡ g → (i : ℕ) → Ends (length m) t w tp m (answerAt (i + 6) Lost (placeAt t i) (Notice 12)) m
+    → MetAs (M.Drops 12) b k t g tp m m
+unfolding stepped
+drops b k t at tp m l s v w g e i d =
+    let q = call-tells b k t at tp m m l refl s v w g e (answerAt (i + 6) Lost (placeAt t i) (Notice 12)) d in
+    let lost = inLane b k L.Lost Plain (i + 6) in (
+      refl,
+      record {
+        step = stepTo lost (F.Notice 12) (noneOf (placeAt t i));
+        gives = record { same = q .same; able = record { size = l .size; walk = record { at = q .able .walk .at; phase = omega arith }; stage = omega arith } };
+        find = refl;
+        large = omega arith;
+        place = i;
+        met = omega arith;
+        about = refl;
+        receiver = refl;
+        ends = lost-call b k t at tp m l (i + 6) (b .walk .began) (d .sound .at);
+      },
+    )
+
+-- the others drop the rest of the TP
+abbrev pub DropsRest : ℕ → ℕ → Type 0
+DropsRest n i = (9 < n) × (eqb n 12 ≡ false) × LossAt n i
+
+pub drops-rest : (b : Receiver) (k : ℕ) (t : Stamp) (at : ℕ) (tp m : List ℕ) → Lends b at tp m → (s : Stage) (v : Walk) (g : Gave) (n i : ℕ) → DropsRest n i
+    → Gives g (stepOf (madeOf b k s v) Plain (length tp) Lost Empty (F.Notice n) (placeAt t i)) tp m → Drops b k t n g tp m
+unfolding stepped
+drops-rest b k t at tp m l s v g n i f q =
+    let lost = inLane b k L.Lost Plain (length tp) in
+    record {
+      step = stepTo lost (F.Notice n) (noneOf (placeAt t i));
+      gives = record { same = q .same; able = record { size = l .size; walk = record { at = q .able .walk .at; phase = omega arith }; stage = omega arith } };
+      find = refl;
+      large = f .0;
+      place = i;
+      met = f .2;
+      about = refl;
+      receiver = ap (λ (x : Bool). inLane b k L.Lost Plain (cond x (i + 6) (length tp))) (sym (f .1));
+      ends = lost-call b k t at tp m l (length tp) (b .walk .began) (omega arith);
+    }
 
 -- ---- headers
 
@@ -219,7 +248,7 @@ module _ (start from : ℕ) (t : Stamp) (tp m : List ℕ) (bytes : Bytes tp) (s 
     ahead-beyond f b k l =
         let w = between start (b .walk .began) Empty in
         let c = rw (← beyond-read (from + 6) (placeAt t from) Empty (length m) (headerIn (number 0 (take 6 (drop from tp)))) (sym e ∙ f)) at (whole-carries (b .walk .began) six) in
-        drops b k t start tp m l bytes Plain w w (plainCall b k t w tp m) (plain-is b k t start tp m l w) (from + 6) (placeAt t from) 12 (omega arith) c
+        drops b k t start tp m l Plain w w (plainCall b k t w tp m) (plain-is b k t start tp m l w) from c
 
     pub ahead-whole : (h : Header) → r ≡ Whole h → (p : Place) → p ≡ placeAt t from → (q : Met) (m′ : List ℕ) → EntersAs q h p (from + 6) tp m m′ → AheadAs q start t tp m m′
     ahead-whole h f p z q m′ d b k l =

@@ -55,11 +55,11 @@ use Rattle.receiver.specs.State.{Sound, pullOf}
 use Rattle.receiver.specs.Turns.{advanceOf, bodyTurn, goes, headerTurn, openedOf, stops, walkAt}
 use Rattle.receiver.proofs.Advancing.{body-cut, body-read}
 use Rattle.receiver.proofs.Answering.{call-gives}
-use Rattle.receiver.proofs.Bodies.{advance-carries}
+use Rattle.receiver.proofs.Bodies.{advance-carries, lost-turned}
 use Rattle.receiver.proofs.Foretelling.{ahead-fore, body-fore, good-fore}
 use Rattle.receiver.proofs.Gather.{put-is, whole-read}
 use Rattle.receiver.proofs.Heading.{Bytes}
-use Rattle.receiver.proofs.LaneAhead.{answerAt, ends-busy, ends-cut, ends-lost, gives-packet, lost-call, plain-is}
+use Rattle.receiver.proofs.LaneAhead.{DropsRest, answerAt, drops-rest, ends-busy, ends-cut, ends-lost, gives-packet, plain-is}
 use Rattle.receiver.proofs.Parting.{behind-in, due-behind, due-outside, set-reads}
 use Rattle.receiver.proofs.SettingOut.{set-agree, set-by}
 use Rattle.receiver.proofs.Standing.{complete-kind, fill-kind, fill-opened}
@@ -68,7 +68,7 @@ use Rattle.receiver.proofs.Striding.{began-free, then-on}
 -- ---- setting about ordinary bytes
 
 -- a call among them looks at the settings only
-settings-only : (b : Receiver) (k : ℕ) (s s′ : Stage) (w w′ : Walk) (t : Stamp) (p : Pulled wire) → ordinaryCall (madeOf b k s w) t p ≡ ordinaryCall (madeOf b k s′ w′) t p
+pub settings-only : (b : Receiver) (k : ℕ) (s s′ : Stage) (w w′ : Walk) (t : Stamp) (p : Pulled wire) → ordinaryCall (madeOf b k s w) t p ≡ ordinaryCall (madeOf b k s′ w′) t p
 settings-only b k s s′ w w′ t p = by (p .find)
   where
     by : (f : Option (Finding wire)) → ordinaryBy f (madeOf b k s w) t p ≡ ordinaryBy f (madeOf b k s′ w′) t p
@@ -77,20 +77,26 @@ settings-only b k s s′ w w′ t p = by (p .find)
     by (some (low x d)) = refl
     by (some (ordinary x d)) = refl
 
+-- 10, 21: the rest of the TP is dropped
+outside-drops : (o at len n : ℕ) → placeOf o at len ≡ Outside n → DropsRest n 4
+unfolding placeOf
+outside-drops o at len n e = by (eqb o 2047) (leb len (o + 4)) (ltb (o + 4) at) e
+  where
+    by : (x y z : Bool) → cond x (Behind (len - at)) (cond y (Outside 10) (cond z (Outside 21) (Behind (o + 4 - at)))) ≡ Outside n → DropsRest n 4
+    by true y z e = let q : _≡_ {A = ℕ} 0 1 = cc in absurd (omega arith)
+    by false true z e = let q : 10 ≡ n = cc in subst (λ (i : ℕ). DropsRest i 4) q (omega arith, refl, refl)
+    by false false true e = let q : 21 ≡ n = cc in subst (λ (i : ℕ). DropsRest i 4) q (omega arith, refl, refl)
+    by false false false e = let q : _≡_ {A = ℕ} 0 1 = cc in absurd (omega arith)
+
 module _ (b : Receiver) (k : ℕ) (t : Stamp) (o n : ℕ) (tp m : List ℕ) (w : Walk) (d : Lends b (w .at) tp m) (l : Lent (madeOf b k (Due o) w) (w .at) tp) where
   abbrev c : Receiver
   c = madeOf b k (Due o) w
 
-  out-drops : Bytes tp → placeOf o (w .at) (length tp) ≡ Outside n → 9 < n → Drops b k t n (callBy t c tp m) tp m
-  out-drops bytes e large =
+  out-drops : placeOf o (w .at) (length tp) ≡ Outside n → Drops b k t n (callBy t c tp m) tp m
+  out-drops e =
       let q = stepOf c Plain (length tp) Lost Empty (F.Notice n) (startOf t) in
-      record {
-        step = q;
-        gives = call-gives c (always t) tp m (C.Gives q) q (d .full) (d .whole) (due-outside c t o (w .at) tp l n e) refl;
-        find = refl;
-        large = large;
-        ends = lost-call b k t (w .at) tp m d bytes (length tp) (w .began) (omega arith);
-      }
+      drops-rest b k t (w .at) tp m d (Due o) w (callBy t c tp m) n 4 (outside-drops o (w .at) (length tp) n e)
+      (call-gives c (always t) tp m (C.Gives q) q (d .full) (d .whole) (due-outside c t o (w .at) tp l n e) refl)
 
   -- reading goes on with x
   abbrev ReadsOn : Walk → Type 0
@@ -143,29 +149,16 @@ lane-lent b k o at (L.Busy g left len c e) tp m d p y =
 
 -- ---- past the payload, or before the low-latency part's end
 
-outside-large : (o at len n : ℕ) → placeOf o at len ≡ Outside n → 9 < n
-unfolding placeOf
-outside-large o at len n e = by (eqb o 2047) (leb len (o + 4)) (ltb (o + 4) at) e
+pub out-outside : (l : Lane) (o at n : ℕ) (tp m : List ℕ) → Tidy (length m) l → Outside n ≡ placeOf o at (length tp) → OutAs (M.Drops n) l o at tp m m
+out-outside l o at n tp m y e = λ b k t d p small. (refl, by l y b k t d (lane-lent b k o at l tp m d p y))
   where
-    by : (x y z : Bool) → cond x (Behind (len - at)) (cond y (Outside 10) (cond z (Outside 21) (Behind (o + 4 - at)))) ≡ Outside n → 9 < n
-    by true y z e = let q : _≡_ {A = ℕ} 0 1 = cc in absurd (omega arith)
-    by false true z e = let q : 10 ≡ n = cc in omega arith
-    by false false true e = let q : 21 ≡ n = cc in omega arith
-    by false false false e = let q : _≡_ {A = ℕ} 0 1 = cc in absurd (omega arith)
-
-pub out-outside : (l : Lane) (o at n : ℕ) (tp m : List ℕ) → Bytes tp → Tidy (length m) l → Outside n ≡ placeOf o at (length tp) → OutAs (M.Drops n) l o at tp m m
-out-outside l o at n tp m bytes y e = λ b k t d p small. (refl, by l y b k t d (lane-lent b k o at l tp m d p y))
-  where
-    large : 9 < n
-    large = outside-large o at (length tp) n (sym e)
-
     by : (l : Lane) → Tidy (length m) l → (b : Receiver) (k : ℕ) (t : Stamp) → Lends b at tp m → Lent (inLane b k l (Due o) at) at tp
         → Drops b k t n (callBy t (inLane b k l (Due o) at) tp m) tp m
     by L.Other y b k t d v = absurd (omega arith)
-    by L.Lost y b k t d v = out-drops b k t o n tp m (walkIn (b .walk .began) L.Lost at) d v bytes (sym e) large
-    by L.Idle y b k t d v = out-drops b k t o n tp m (walkIn (b .walk .began) L.Idle at) d v bytes (sym e) large
-    by (L.Cut g i w) y b k t d v = out-drops b k t o n tp m (walkIn (b .walk .began) (L.Cut g i w) at) d v bytes (sym e) large
-    by (L.Busy g left len c x) y b k t d v = out-drops b k t o n tp m (walkIn (b .walk .began) (L.Busy g left len c x) at) d v bytes (sym e) large
+    by L.Lost y b k t d v = out-drops b k t o n tp m (walkIn (b .walk .began) L.Lost at) d v (sym e)
+    by L.Idle y b k t d v = out-drops b k t o n tp m (walkIn (b .walk .began) L.Idle at) d v (sym e)
+    by (L.Cut g i w) y b k t d v = out-drops b k t o n tp m (walkIn (b .walk .began) (L.Cut g i w) at) d v (sym e)
+    by (L.Busy g left len c x) y b k t d v = out-drops b k t o n tp m (walkIn (b .walk .began) (L.Busy g left len c x) at) d v (sym e)
 
 -- ---- behind it, in a lane
 
@@ -197,12 +190,12 @@ module _ (n at : ℕ) (tp m : List ℕ) where
       let u : uponOf (at + n) (length tp) ≡ Head 0 0 = rw (lt-ltb (at + n) (length tp) l) in
       (refl, omega (arith, l), out-plain b k t o n tp m (lost b k t o d p e) d (lent b k t o d p e) _ (lost-on b k t o d p e (Head 0 0) u))
 
-  pub lost-stays : Bytes tp → at + n ≤ length tp → length tp ≤ at + n → SetAs (M.Ends L.Lost) L.Lost n at tp m m
-  unfolding uponOf Carries advanceOf roomOf
-  lost-stays bytes i l = λ b k t o d p small e.
+  pub lost-stays : at + n ≤ length tp → length tp ≤ at + n → SetAs (M.Ends L.Lost) L.Lost n at tp m m
+  unfolding uponOf Carries
+  lost-stays i l = λ b k t o d p small e.
       let u : uponOf (at + n) (length tp) ≡ Lost = rw (le-ltb (at + n) (length tp) l) in
       let x = walkAt (at + n) Lost (b .walk .began) Empty in
-      let h : Ends (length m) t x tp m (answerAt (length tp) Lost (b .walk .began) Nothing) m = advance-carries (length m) t tp m refl bytes x (record { at = i; phase = omega arith }) in
+      let h : Ends (length m) t x tp m (answerAt (length tp) Lost (b .walk .began) Nothing) m = lost-turned (length m) t tp m x (record { at = i; phase = omega arith }) refl in
       ends-lost b k t at tp m m d refl (Due o) (lost b k t o d p e) x _ (lost-on b k t o d p e Lost u) (length tp) (b .walk .began) h
 
   pub idle-reads : n ≡ 0 → SetAs (M.Reads at) L.Idle n at tp m m

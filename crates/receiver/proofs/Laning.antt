@@ -1,5 +1,5 @@
 -- A receiver in a lane can be called, and what a TP's header makes of its first call. Assumes nothing.
-use Prim.Native.Nat.{ℕ, _+_, _≤_, _<_}
+use Prim.Native.Nat.{ℕ, _≤_, _<_}
 use mathlib.Core.Path.{_≡_, refl, subst}
 use native.Mathlib.Omega.{arith}
 use Rattle.receiver.specs.declared.Place.{Place}
@@ -18,7 +18,7 @@ StageAt (Low o) at = (o < 2048) × (4 ≤ at)
 StageAt (Due o) at = (o < 2048) × (4 ≤ at)
 StageAt Plain at = 0 ≤ 0
 
-at-in : (g : Place) (l : Lane) (at : ℕ) → at ≡ walkIn g l at .at
+pub at-in : (g : Place) (l : Lane) (at : ℕ) → at ≡ walkIn g l at .at
 at-in g L.Other at = refl
 at-in g L.Lost at = refl
 at-in g L.Idle at = refl

@@ -53,4 +53,5 @@ pub mod Swiftly
 pub mod Laning
 pub mod LaneAhead
 pub mod LaneOut
+pub mod LaneFirst
 pub mod Laned

@@ -2,7 +2,7 @@
 -- from there. A loop over TPs carries a lane in the place of the receiver. Assumes nothing.
 use Prim.Native.Nat.{ℕ, _+_, _≤_, _<_, _^_}
 use mathlib.Core.Path.{_≡_}
-use mathlib.Core.Bool.{cond}
+use mathlib.Core.Bool.{cond, true}
 use mathlib.Core.List.{List}
 use lib.Dec.{eqb}
 use lib.ListN.{length}
@@ -13,22 +13,23 @@ use Rattle.receiver.specs.declared.Find.the-variants as F
 use Rattle.receiver.specs.declared.Place.{Place}
 use Rattle.receiver.specs.declared.Receiver.{Receiver}
 use Rattle.receiver.specs.declared.Stage.{Stage}
-use Rattle.receiver.specs.declared.Stage.the-variants.{Fresh, Due, Plain}
+use Rattle.receiver.specs.declared.Stage.the-variants.{Fresh, Low, Due, Plain}
 use Rattle.receiver.specs.declared.Stamp.{Stamp}
 use Rattle.receiver.specs.declared.Step.{Step}
 use Rattle.receiver.specs.declared.entry.Top.{Top}
-use Rattle.receiver.specs.declared.entry.Top.the-variants.{Elsewhere}
+use Rattle.receiver.specs.declared.entry.Top.the-variants.{Elsewhere, Dropped, Says}
 use Rattle.receiver.specs.declared.lane.Lane.{Lane}
 use Rattle.receiver.specs.declared.lane.Lane.the-variants as L
 use Rattle.receiver.specs.declared.lane.Met.{Met}
 use Rattle.receiver.specs.declared.lane.Met.the-variants as M
+use Rattle.receiver.specs.declared.low.Lows.{Lows}
+use Rattle.receiver.specs.declared.low.Lows.the-variants as W
 use Rattle.receiver.specs.declared.walk.Kept.the-variants.{Empty, Of}
 use Rattle.receiver.specs.declared.walk.Phase.the-variants.{Lost, Head, Body}
 use Rattle.receiver.specs.declared.walk.Walk.{Walk}
-use Rattle.receiver.specs.Call.{Gave, Gives, callAs, always}
+use Rattle.receiver.specs.Call.{Gave, Gives, callAs, always, lasts}
 use Rattle.receiver.specs.Pieces.{noneOf, topOf}
-use Rattle.receiver.specs.Place.{startOf}
-use Rattle.receiver.specs.State.{Able}
+use Rattle.receiver.specs.Place.{placeAt, startOf, countOf}
 use Rattle.receiver.specs.Turns.{walkAt}
 
 -- the header of a complete EP
@@ -82,12 +83,24 @@ stepTo r f a = record { receiver = r; find = f; about = a }
 abbrev pub endsIn : Receiver → Stamp → Step
 endsIn r t = stepTo r F.Nothing (noneOf (startOf t))
 
+-- a loss of step is told where it is met: 12 at a header, 11 at an LLEP; 10 and 21 at the payload's start, place 4
+abbrev pub LossAt : ℕ → ℕ → Type 0
+LossAt n i = cond (eqb n 11) (0 ≤ 0) (cond (eqb n 12) (0 ≤ 0) (i ≡ 4))
+
+-- and where it leaves reading: 12 behind the header; the others with the "rest of TP dropped"
+abbrev pub lossEnd : ℕ → ℕ → ℕ → ℕ
+lossEnd n i len = cond (eqb n 12) (i + 6) len
+
 -- "out of step": a notice, and then none
 pub record Drops (b : Receiver) (k : ℕ) (t : Stamp) (n : ℕ) (g : Gave) (tp m : List ℕ) : Type 0 where
   pub step : Step
   pub gives : Gives g step tp m
   pub find : step .find ≡ F.Notice n
   pub large : 9 < n
+  pub place : ℕ
+  pub met : LossAt n place
+  pub about : step .about ≡ noneOf (placeAt t place)
+  pub receiver : step .receiver ≡ inLane b k L.Lost Plain (lossEnd n place (length tp))
   pub ends : Gives (callBy t (step .receiver) tp m) (endsIn (inLane b k L.Lost Fresh 0) t) tp m
 
 -- what a call g comes to, in lanes of b's settings: left as it was; a loss of step; none; the call between two EPs at this place; or a packet, behind
@@ -115,3 +128,18 @@ AheadAs q at t tp m m′ = (b : Receiver) (k : ℕ) → Lends b at tp m → MetA
 abbrev pub OutAs : Met → Lane → ℕ → ℕ → List ℕ → List ℕ → List ℕ → Type 0
 OutAs q l o at tp m m′ =
     (b : Receiver) (k : ℕ) (t : Stamp) → Lends b at tp m → 4 ≤ at → o < 2048 → MetAs q b k t (callBy t (inLane b k l (Due o) at) tp m) tp m m′
+
+-- a TP's first call in a lane, by what its header says: left open; "TP dropped", which puts out of step; or the call at its payload's start, the
+-- TP counted
+abbrev pub FirstAs : Top → Receiver → ℕ → Lane → Stamp → Gave → List ℕ → List ℕ → Type 0
+FirstAs Elsewhere b k l t g tp m = 0 ≤ 0
+FirstAs (Dropped n) b k l t g tp m =
+    Gives g (stepTo (inLane b (countOf k) L.Lost Fresh 0) (F.Notice n) (noneOf (startOf t))) tp m × (n ≤ 9)
+FirstAs (Says low o) b k l t g tp m = callBy t (inLane b (countOf k) l (cond low (Low o) (Due o)) 4) tp m ≡ g
+
+-- a call in the low-latency part: a find of it; its end, which is the call behind it; or a loss of step
+abbrev pub LowAs : Lows → Receiver → ℕ → Lane → ℕ → Stamp → Gave → List ℕ → List ℕ → Type 0
+LowAs (W.Gives f e i more end) b k l o t g tp m =
+    Gives g (stepTo (inLane b k l (cond more (Low o) (Due o)) end) f (record { repaired = e; at = placeAt t i })) tp m × (lasts f ≡ true)
+LowAs (W.End i) b k l o t g tp m = callBy t (inLane b k l (Due o) i) tp m ≡ g
+LowAs (W.Broken i) b k l o t g tp m = Drops b k t 11 g tp m

@@ -1,7 +1,6 @@
 -- `receiver::lane::from_lane` meets its contract: each lane goes its way.
 -- Assumes nothing.
 use Prim.Native.Nat.{_+_}
-use native.Mathlib.Omega.{arith}
 use lib.ListN.{length}
 use Rattle.receiver.specs.declared.lane.Lane.the-variants as L
 use Rattle.receiver.specs.declared.lane.Met.the-variants as M
@@ -58,7 +57,7 @@ returns-4 c =
     let s = c .before .before .before .before .before in
     let a = s .args in
     lane-as (a .n) (a .at) (a .tp .now) (a .room .now) (M.Ends L.Lost) (a .lane) L.Lost (a .room .now) (c .before .enum-told2 .given .1)
-    (lost-stays (a .n) (a .at) (a .tp .now) (a .room .now) (λ i. omega (arith, c .before .before .before .before .shared-slice-known .given i)) (s .pre .0) (c .if1 .left))
+    (lost-stays (a .n) (a .at) (a .tp .now) (a .room .now) (s .pre .0) (c .if1 .left))
 
 returns-5 : tie.Need-returns-5
 returns-5 c =

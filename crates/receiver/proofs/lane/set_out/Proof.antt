@@ -1,7 +1,6 @@
 -- `receiver::lane::set_out` meets its contract: past the payload, or behind the low-latency part in a lane.
 -- Assumes nothing.
 use mathlib.Core.Path.{sym, _∙_}
-use native.Mathlib.Omega.{arith}
 use lib.ListN.{length}
 use Rattle.receiver.proofs.LaneOut.{out-outside}
 use Rattle.receiver.proofs.Parting.{behind-in}
@@ -36,7 +35,7 @@ returns-3 c =
     let s = c .before .before .before .before .before .before .before .before in
     let a = s .args in
     let e = sym (c .before .number .given .1) ∙ c .before .before .before .place-of .ensures in
-    out-outside (a .lane) (a .offset) (a .at) _ (a .tp .now) (a .room .now) (λ i. omega (arith, c .before .before .before .before .before .before .before .shared-slice-known .given i)) (s .pre) e
+    out-outside (a .lane) (a .offset) (a .at) _ (a .tp .now) (a .room .now) (s .pre) e
 
 same-length : tie.Need-same-length
 same-length c = search needs
