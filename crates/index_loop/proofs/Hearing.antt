@@ -50,6 +50,36 @@ module _ (task : Task) (gone : ℕ) (tp : List ℕ) (first : Run) (m out : List 
   heard-done h ef en =
       inr (subst (λ (n : ℕ). Ends task (record { number = first .record; byte = n }) tp (first .receiver) m (blockOf out (first .at)) (r .receiver) m′ (blockOf out′ (r .at))) is h, (ef, en))
 
+-- ---- with more to give
+
+module _ {task : Task} {t : Stamp} {tp : List ℕ} {r : Receiver} {m : List ℕ} {o : Block} where
+  pub pauses-none : Pauses task t tp r m o r m o
+  pauses-none = record { left = r; hears = nothing; alike = refl }
+
+  module _ {r′ : Receiver} {m′ : List ℕ} {o′ : Block} where
+    pub pauses-as : {r″ : Receiver} → Pauses task t tp r m o r′ m′ o′ → callBy t r″ tp m′ ≡ callBy t r′ tp m′ → Pauses task t tp r m o r″ m′ o′
+    pauses-as p e = record { left = p .left; hears = p .hears; alike = e ∙ p .alike }
+
+    pub pauses-then : {q : Step} {m″ : List ℕ} → Pauses task t tp r m o r′ m′ o′ → Gives (callBy t r′ tp m′) q tp m″ → lasts (q .find) ≡ true
+        → Pauses task t tp r m o (q .receiver) m″ (puts task t tp q m″ o′)
+    pauses-then {q} {m″} p g on = record { left = q .receiver; hears = then (p .hears) (subst (λ (x : Gave). Gives x q tp m″) (p .alike) g) on; alike = refl }
+
+    pub pauses-last : {q : Step} {m″ : List ℕ} → Pauses task t tp r m o r′ m′ o′ → Gives (callBy t r′ tp m′) q tp m″ → lasts (q .find) ≡ false
+        → Ends task t tp r m o (q .receiver) m″ (puts task t tp q m″ o′)
+    pauses-last {q} {m″} p g off = last (p .hears) (subst (λ (x : Gave). Gives x q tp m″) (p .alike) g) off
+
+-- a TP that is taken in two goes is taken in one
+module _ {task : Task} {t : Stamp} {tp : List ℕ} {r : Receiver} {m : List ℕ} {o : Block} {r′ : Receiver} {m′ : List ℕ} {o′ : Block} (p : Pauses task t tp r m o r′ m′ o′) where
+  pub pauses-hears : {r″ : Receiver} {m″ : List ℕ} {o″ : Block} → Hears task t tp r′ m′ o′ r″ m″ o″ → Pauses task t tp r m o r″ m″ o″
+  pauses-hears nothing = p
+  pauses-hears (then h g on) = pauses-then (pauses-hears h) g on
+
+  pub pauses-on : {r″ : Receiver} {m″ : List ℕ} {o″ : Block} → Pauses task t tp r′ m′ o′ r″ m″ o″ → Pauses task t tp r m o r″ m″ o″
+  pauses-on q = pauses-as (pauses-hears (q .hears)) (q .alike)
+
+  pub pauses-ends : {r″ : Receiver} {m″ : List ℕ} {o″ : Block} → Ends task t tp r′ m′ o′ r″ m″ o″ → Ends task t tp r m o r″ m″ o″
+  pauses-ends (last h g off) = pauses-last (pauses-hears h) g off
+
 -- ---- a TP's record, and another
 
 pub does-heard : (said : Record) (n : ℕ) (task : Task) (gone : ℕ) (d : List ℕ) (first : Run) (m out : List ℕ) (r : Run) (m′ out′ : List ℕ) → said ≡ R.Packet n

@@ -100,8 +100,11 @@ module _ (l : Lane) (o at : ℕ) (tp m m′ : List ℕ) (covered : ℕ) (t : Sta
   pub out-leaves : (x : Left) → w ≡ Off x → Leaves at tp m x
   out-leaves x g b e = subst (WayFits b) g (out-fits b e)
 
+  pub out-lent : (i : ℕ) → w ≡ On i → length m′ ≡ length m → Lent at tp m i m′
+  out-lent i g s b e = lends-on b at i tp m m′ e s (subst (WayFits b) g (out-fits b e))
+
   pub out-then : (i : ℕ) (x : Left) → w ≡ On i → length m′ ≡ length m → Leaves i tp m′ x → Leaves at tp m x
-  out-then i x g s v b e = v b (lends-on b at i tp m m′ e s (subst (WayFits b) g (out-fits b e)))
+  out-then i x g s v b e = v b (out-lent i g s b e)
 
 pub due-leaves : (l : Lane) (o at : ℕ) (tp m : List ℕ) → Tidy (length m) l → 4 ≤ at → o < 2048 → Leaves at tp m (From l (Due o) at)
 due-leaves l o at tp m t four small b e = from-fits b l (Due o) at e t (small, four)

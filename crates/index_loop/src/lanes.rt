@@ -7,8 +7,10 @@ ghost use Rattle.receiver.specs.State.{Able};
 ghost use Rattle.receiver.specs.Lanes.{Tidy, inLane};
 ghost use Rattle.receiver.specs.Lows.{lowsOf};
 ghost use Rattle.receiver.specs.Place.{placeAt};
+ghost use Rattle.receiver.specs.declared.Stage.the-variants.{Due, Plain};
+ghost use Rattle.receiver.specs.declared.lane.Lane.the-variants.{Idle};
 ghost use Rattle.index_loop.specs.Walking.{Ready, Ahead};
-ghost use Rattle.index_loop.specs.Lanes.{metText, lowText, Looked, SetOut, wayBy, plainAt, partBy, LeftFits, Leaves, PartFits};
+ghost use Rattle.index_loop.specs.Lanes.{metText, lowText, Looked, SetOut, wayBy, plainAt, partBy, LeftFits, Leaves, LeavesBy, PartFits};
 use crate::FINDS;
 use crate::RECORDS;
 use crate::Run;
@@ -219,6 +221,7 @@ fn run_on(
     held: usize,
 ) -> Passed
     ensures { λ r. ⌜ Leaves begin (now (tp .entry)) (now (room .entry)) (r .left) ⌝ }
+    ensures { λ r. ⌜ LeavesBy covered stamp Idle Plain begin (now (tp .entry)) (now (room .entry)) (now (out .entry)) held r (now (room .exit)) (now (out .exit)) ⌝ }
 {
     let mut at = held;
     let mut place = begin;
@@ -263,6 +266,7 @@ fn ordinary(
     requires { ⌜ Tidy (length (now room)) lane ⌝ }
     requires { ⌜ (4 ≤ place) × (offset < 2048) ⌝ }
     ensures { λ r. ⌜ Leaves place (now (tp .entry)) (now (room .entry)) (r .left) ⌝ }
+    ensures { λ r. ⌜ LeavesBy covered stamp lane (Due offset) place (now (tp .entry)) (now (room .entry)) (now (out .entry)) at r (now (room .exit)) (now (out .exit)) ⌝ }
 {
     let due = Left::From {
         lane,

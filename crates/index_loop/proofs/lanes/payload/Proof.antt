@@ -41,7 +41,7 @@ same-length-4 : tie.Need-same-length-4
 same-length-4 c = c .before .out2 .given ∙ c .before .before .before .before .before .before .before .before .before .before .before .out .given
 
 returns-3 : tie.Need-returns-3
-returns-3 c = let a = c .before .before .before .before .before .before .before .before .before .before .before .before .before .before .before .before .before .args in behind-leaves _ _ (a .tp .now) (a .room .now) (c .before .before .before .before .ordinary .result .left) (c .before .before .before .before .before .before .before .before .before .before .before .before .low-part .ensures) (c .before .before .before .before .before .before .before .before .part2 .given .1) (c .before .before .before .before .ordinary .ensures)
+returns-3 c = let a = c .before .before .before .before .before .before .before .before .before .before .before .before .before .before .before .before .before .args in behind-leaves _ _ (a .tp .now) (a .room .now) (c .before .before .before .before .ordinary .result .left) (c .before .before .before .before .before .before .before .before .before .before .before .before .low-part .ensures) (c .before .before .before .before .before .before .before .before .part2 .given .1) (c .before .before .before .before .ordinary .ensures .0)
 
 pub payload-spec : {M : Type 1} → statement M
 payload-spec =
