@@ -12,17 +12,19 @@ use Rattle.block.specs.Block.{Block, put}
 use Rattle.block.proofs.Laws as Block
 use Rattle.indexing.specs.Lines.{findText, newText}
 use Rattle.receiver.specs.Call.{Gives, lasts}
-use Rattle.receiver.specs.Lanes.{Tidy, Lends, Drops, FirstAs, LowAs, MetAs, callBy, endsIn, inLane, topIn}
+use Rattle.receiver.specs.Lanes.{Tidy, Lends, Drops, FirstAs, LowAs, MetAs, callBy, endsIn, inLane, stepTo, topIn}
 use Rattle.receiver.specs.Lows.{lowsOf}
-use Rattle.receiver.specs.Place.{countOf}
+use Rattle.receiver.specs.Pieces.{noneOf}
+use Rattle.receiver.specs.Place.{countOf, startOf}
 use Rattle.receiver.specs.declared.Find.{Find}
+use Rattle.receiver.specs.declared.Find.the-variants.{Notice}
 use Rattle.receiver.specs.declared.Place.{Place}
 use Rattle.receiver.specs.declared.Receiver.{Receiver}
 use Rattle.receiver.specs.declared.Stage.the-variants.{Fresh, Low, Due, Plain}
 use Rattle.receiver.specs.declared.Stamp.{Stamp}
 use Rattle.receiver.specs.declared.Step.{Step}
 use Rattle.receiver.specs.declared.entry.Top.{Top}
-use Rattle.receiver.specs.declared.entry.Top.the-variants.{Elsewhere, Dropped, Says}
+use Rattle.receiver.specs.declared.entry.Top.the-variants.{Dropped, Says}
 use Rattle.receiver.specs.declared.lane.Lane.{Lane}
 use Rattle.receiver.specs.declared.lane.Lane.the-variants as L
 use Rattle.receiver.specs.declared.lane.Met.{Met}
@@ -38,10 +40,10 @@ use Rattle.index_loop.specs.declared.lanes.Part.{Part}
 use Rattle.index_loop.specs.declared.lanes.Part.the-variants.{Within, Broken, Behind}
 use Rattle.index_loop.specs.declared.lanes.Way.{Way}
 use Rattle.index_loop.specs.declared.lanes.Way.the-variants.{On, Off}
-use Rattle.index_loop.specs.Lanes.{metText, lowText, Looked, SetOut, LeftBy, PartBy, PartFits, BegunBy, startStage, wayBy, plainAt, partBy}
+use Rattle.index_loop.specs.Lanes.{metText, lowText, Looked, SetOut, LeftBy, PartBy, BegunBy, startStage, wayBy, plainAt, partBy}
 use Rattle.index_loop.specs.Walking.{Ends, Pauses, blockOf, puts}
 use Rattle.index_loop.proofs.Hearing.{pauses-none, pauses-as, pauses-then, pauses-last, pauses-on, pauses-ends}
-use Rattle.index_loop.proofs.Passing.{Lent}
+use Rattle.index_loop.proofs.Passing.{Lent, lends-on}
 
 -- ---- a find that has no line
 
@@ -155,3 +157,114 @@ module _ (covered : ℕ) (t : Stamp) (l : Lane) (o at : ℕ) (tp m out : List �
   out-on i x m″ out″ n g lent ran b k d =
       left-on covered t tp b k (inLane b k l (Due o) at) m (blockOf out held) (inLane b k L.Idle Plain i) m′ (blockOf out′ (r .at)) x m″ (blockOf out″ n)
       (subst (λ (y : Way). WayBy covered t tp b k (inLane b k l (Due o) at) m (blockOf out held) y m′ (blockOf out′ (r .at))) g (way-out b k d)) (ran b k (lent b d))
+
+-- ---- the low-latency part
+
+-- whatever receiver lends this TP, in a lane, with an offset: from place 4 on to this
+abbrev pub RanLow : ℕ → Stamp → List ℕ → List ℕ → ℕ → ℕ → List ℕ → ℕ → Type 0
+RanLow covered t tp out₀ held at out n =
+    (b : Receiver) (k : ℕ) (l : Lane) (o : ℕ) (m : List ℕ) → Lends b 4 tp m → Tidy (b .limit) l → o < 2048
+    → Pauses (Index covered) t tp (inLane b k l (Low o) 4) m (blockOf out₀ held) (inLane b k l (Low o) at) m (blockOf out n)
+
+abbrev pub PartTo : ℕ → Stamp → Bool → List ℕ → List ℕ → ℕ → Part → List ℕ → ℕ → Type 0
+PartTo covered t low tp out held p out′ n =
+    (b : Receiver) (k : ℕ) (l : Lane) (o : ℕ) (m : List ℕ) → Lends b 4 tp m → Tidy (b .limit) l → o < 2048
+    → PartBy covered t tp b k l o (inLane b k l (startStage low o) 4) m (blockOf out held) p (blockOf out′ n)
+
+-- there is one, or none
+pub part-of-none : (covered : ℕ) (t : Stamp) (low : Bool) (tp out : List ℕ) (held : ℕ) → low ≡ false → PartTo covered t low tp out held (Behind 4) out held
+part-of-none covered t low tp out held e b k l o m d y s =
+    subst⁻¹ (λ (x : Bool). PartBy covered t tp b k l o (inLane b k l (startStage x o) 4) m (blockOf out held) (Behind 4) (blockOf out held)) e pauses-none
+
+pub part-within : (covered : ℕ) (t : Stamp) (low : Bool) (tp out : List ℕ) (held at : ℕ) (out′ : List ℕ) (n : ℕ) → low ≡ true → RanLow covered t tp out held at out′ n
+    → PartTo covered t low tp out held (Within at) out′ n
+part-within covered t low tp out held at out′ n e ran = subst⁻¹ (λ (x : Bool). PartTo covered t x tp out held (Within at) out′ n) e ran
+
+module _ (covered : ℕ) (t : Stamp) (tp out₀ : List ℕ) (held at : ℕ) (out : List ℕ) (n : ℕ) (w : Lows) (out′ : List ℕ) (n′ : ℕ) (p : Part) (four : 4 ≤ at) (inside : at ≤ length tp)
+    (ran : RanLow covered t tp out₀ held at out n) (is : w ≡ lowsOf tp at) (text : blockOf out′ n′ ≡ put out n (lowText covered t w)) (part : p ≡ partBy w) where
+  module _ (b : Receiver) (k : ℕ) (l : Lane) (o : ℕ) (m : List ℕ) (d : Lends b 4 tp m) (y : Tidy (b .limit) l) (s : o < 2048) where
+    abbrev By : Part → Block → Type 0
+    By = PartBy covered t tp b k l o (inLane b k l (Low o) 4) m (blockOf out₀ held)
+
+    abbrev here : Receiver
+    here = inLane b k l (Low o) at
+
+    open-end : (more : Bool) (i : ℕ) (x : Block) → Pauses (Index covered) t tp (inLane b k l (Low o) 4) m (blockOf out₀ held) (inLane b k l (cond more (Low o) (Due o)) i) m x
+        → By (cond more (Within i) (Behind i)) x
+    open-end true i x h = h
+    open-end false i x h = h
+
+    by-low : (z : Lows) → LowAs z b k l o t (callBy t here tp m) tp m → blockOf out′ n′ ≡ put out n (lowText covered t z) → By (partBy z) (blockOf out′ n′)
+    by-low (W.Broken i) a e =
+        subst⁻¹ (By Broken) (e ∙ sym (Block.nothing out n)) (drops-so covered t tp b k (inLane b k l (Low o) 4) m (blockOf out₀ held) here m (blockOf out n) 11 (ran b k l o m d y s) a)
+    by-low (W.End i) a e = subst⁻¹ (By (Behind i)) (e ∙ sym (Block.nothing out n)) (pauses-as (ran b k l o m d y s) a)
+    by-low (W.Gives f c i more end) a e =
+        open-end more end (blockOf out′ n′)
+        (subst⁻¹ (Pauses (Index covered) t tp (inLane b k l (Low o) 4) m (blockOf out₀ held) (inLane b k l (cond more (Low o) (Due o)) end) m) e (pauses-then (ran b k l o m d y s) (a .0) (a .1)))
+
+  part-on : PartTo covered t true tp out₀ held p out′ n′
+  part-on b k l o m d y s =
+      let lent = lends-on b 4 at tp m m d refl (omega (arith, inside, d .whole)) in
+      subst⁻¹ (λ (z : Part). PartBy covered t tp b k l o (inLane b k l (Low o) 4) m (blockOf out₀ held) z (blockOf out′ n′)) part
+      (by-low b k l o m d y s w (subst⁻¹ (λ (z : Lows). LowAs z b k l o t (callBy t (inLane b k l (Low o) at) tp m) tp m) is (low-as b k l o at t tp m lent y four s)) text)
+
+  pub ran-low : (i : ℕ) → p ≡ Within i → RanLow covered t tp out₀ held i out′ n′
+  ran-low i g b k l o m d y s = subst (λ (z : Part). PartBy covered t tp b k l o (inLane b k l (Low o) 4) m (blockOf out₀ held) z (blockOf out′ n′)) g (part-on b k l o m d y s)
+
+  pub part-then : (low : Bool) → low ≡ true → PartTo covered t low tp out₀ held p out′ n′
+  part-then low e = subst⁻¹ (λ (x : Bool). PartTo covered t x tp out₀ held p out′ n′) e part-on
+
+-- ---- the payload
+
+-- from its start, in a lane with this offset
+abbrev pub PayloadTo : ℕ → Stamp → Lane → Bool → ℕ → List ℕ → List ℕ → List ℕ → ℕ → Left → List ℕ → List ℕ → ℕ → Type 0
+PayloadTo covered t l low o tp m out held x m′ out′ n =
+    (b : Receiver) (k : ℕ) → Lends b 4 tp m → LeftBy covered t tp b k (inLane b k l (startStage low o) 4) m (blockOf out held) x m′ (blockOf out′ n)
+
+module _ (covered : ℕ) (t : Stamp) (l : Lane) (low : Bool) (o : ℕ) (tp m out : List ℕ) (held : ℕ) (p : Part) (out′ : List ℕ) (n : ℕ) (tidy : Tidy (length m) l) (small : o < 2048)
+    (parted : PartTo covered t low tp out held p out′ n) where
+  part-by : (q : Part) → p ≡ q → (b : Receiver) (k : ℕ) → Lends b 4 tp m → PartBy covered t tp b k l o (inLane b k l (startStage low o) 4) m (blockOf out held) q (blockOf out′ n)
+  part-by q e b k d =
+      subst (λ (z : Part). PartBy covered t tp b k l o (inLane b k l (startStage low o) 4) m (blockOf out held) z (blockOf out′ n)) e
+      (parted b k l o m d (subst (λ (i : ℕ). Tidy i l) (d .full) tidy) small)
+
+  pub within-left : (i : ℕ) → p ≡ Within i → PayloadTo covered t l low o tp m out held (From l (Low o) i) m out′ n
+  within-left i e b k d = part-by (Within i) e b k d
+
+  pub broken-left : p ≡ Broken → PayloadTo covered t l low o tp m out held (Nothing L.Lost) m out′ n
+  broken-left e b k d = part-by Broken e b k d
+
+  pub behind-left : (i : ℕ) (x : Left) (m″ out″ : List ℕ) (n″ : ℕ) → p ≡ Behind i → Lent 4 tp m i m → OutTo covered t l o i tp m out′ n x m″ out″ n″
+      → PayloadTo covered t l low o tp m out held x m″ out″ n″
+  behind-left i x m″ out″ n″ e lent v b k d =
+      left-on covered t tp b k (inLane b k l (startStage low o) 4) m (blockOf out held) (inLane b k l (Due o) i) m (blockOf out′ n) x m″ (blockOf out″ n″)
+      (part-by (Behind i) e b k d) (v b k (lent b d))
+
+-- ---- a TP, by what its header says
+
+module _ (covered : ℕ) (t : Stamp) (l : Lane) (b : Receiver) (tp m out : List ℕ) (held : ℕ) (size : 16 ≤ b .size) (full : length m ≡ b .limit) (tidy : Tidy (b .limit) l) where
+  abbrev pub BegunTo : Left → List ℕ → List ℕ → ℕ → Type 0
+  BegunTo x m′ out′ n = (k : ℕ) → BegunBy covered t tp b (countOf k) (inLane b k l Fresh 0) m (blockOf out held) x m′ (blockOf out′ n)
+
+  first-by : (q : Top) (k : ℕ) → topIn b tp ≡ q → FirstAs q b k l t (callBy t (inLane b k l Fresh 0) tp m) tp m
+  first-by q k e = subst (λ (x : Top). FirstAs x b k l t (callBy t (inLane b k l Fresh 0) tp m) tp m) e (first-as b k l t tp m size full tidy)
+
+  -- "TP dropped"
+  pub dropped-left : (n : ℕ) → topIn b tp ≡ Dropped n → BegunTo (Nothing L.Lost) m out held
+  dropped-left n e k =
+      let f = first-by (Dropped n) k e in
+      subst (Ends (Index covered) t tp (inLane b k l Fresh 0) m (blockOf out held) (inLane b (countOf k) L.Lost Fresh 0) m)
+      (same-block covered t tp (stepTo (inLane b (countOf k) L.Lost Fresh 0) (Notice n) (noneOf (startOf t))) m (blockOf out held) refl)
+      (pauses-last pauses-none (f .0) (le-ltb 9 n (f .1)))
+
+  begun : (k : ℕ) (x : Left) (m′ : List ℕ) (o : Block) → LeftBy covered t tp b (countOf k) (inLane b k l Fresh 0) m (blockOf out held) x m′ o
+      → BegunBy covered t tp b (countOf k) (inLane b k l Fresh 0) m (blockOf out held) x m′ o
+  begun k (Nothing z) m′ o h = h
+  begun k All m′ o h = absurd (omega (arith, h))
+  begun k (From z s i) m′ o h = h
+
+  pub says-left : (low : Bool) (o : ℕ) (x : Left) (m′ out′ : List ℕ) (n : ℕ) → topIn b tp ≡ Says low o → Lends b 4 tp m → PayloadTo covered t l low o tp m out held x m′ out′ n → BegunTo x m′ out′ n
+  says-left low o x m′ out′ n e d v k =
+      begun k x m′ (blockOf out′ n)
+      (left-on covered t tp b (countOf k) (inLane b k l Fresh 0) m (blockOf out held) (inLane b (countOf k) l (startStage low o) 4) m (blockOf out held) x m′ (blockOf out′ n)
+      (pauses-as pauses-none (first-by (Says low o) k e)) (v b (countOf k) d))

@@ -10,7 +10,7 @@ ghost use Rattle.receiver.specs.Place.{placeAt};
 ghost use Rattle.receiver.specs.declared.Stage.the-variants.{Due, Plain};
 ghost use Rattle.receiver.specs.declared.lane.Lane.the-variants.{Idle};
 ghost use Rattle.index_loop.specs.Walking.{Ready, Ahead};
-ghost use Rattle.index_loop.specs.Lanes.{metText, lowText, Looked, SetOut, wayBy, plainAt, partBy, LeftFits, Leaves, LeavesBy, PartFits};
+ghost use Rattle.index_loop.specs.Lanes.{metText, lowText, Looked, SetOut, wayBy, plainAt, partBy, LeftFits, Leaves, LeavesBy, PartFits, PartedBy, PassedBy, startStage};
 use crate::FINDS;
 use crate::RECORDS;
 use crate::Run;
@@ -318,6 +318,7 @@ fn low_part(
 ) -> Parted
     requires { ⌜ 4 ≤ length (now tp) ⌝ }
     ensures { λ r. ⌜ PartFits (length (now (tp .entry))) (r .part) ⌝ }
+    ensures { λ r. ⌜ PartedBy covered stamp present (now (tp .entry)) (now (out .entry)) held r (now (out .exit)) ⌝ }
 {
     if !present {
         return Parted {
@@ -367,6 +368,7 @@ fn payload(
     requires { ⌜ Tidy (length (now room)) lane ⌝ }
     requires { ⌜ (4 ≤ length (now tp)) × (offset < 2048) ⌝ }
     ensures { λ r. ⌜ Leaves 4 (now (tp .entry)) (now (room .entry)) (r .left) ⌝ }
+    ensures { λ r. ⌜ LeavesBy covered stamp lane (startStage present offset) 4 (now (tp .entry)) (now (room .entry)) (now (out .entry)) held r (now (room .exit)) (now (out .exit)) ⌝ }
 {
     let parted = low_part(covered, full, present, stamp, tp, out, held);
     let at = parted.at;
@@ -415,6 +417,7 @@ fn pass(
     requires { ⌜ length (now room) ≡ base .limit ⌝ }
     requires { ⌜ Tidy (base .limit) lane ⌝ }
     ensures { λ r. ⌜ LeftFits base (r .left) ⌝ }
+    ensures { λ r. ⌜ PassedBy covered stamp lane base (now (tp .entry)) (now (room .entry)) (now (out .entry)) at r (now (room .exit)) (now (out .exit)) ⌝ }
 {
     match lane::top(base, tp) {
         Top::Elsewhere => Passed {

@@ -138,7 +138,7 @@ counted-requires c κs = search needs
 
 run-of-requires : tie.Need-run-of-requires Inv-loop μ-loop
 run-of-requires c κs =
-    let f = subst (LeftFits (c .before .before .before .before .before .before .before .before .before .before .before .before .before .before .before .before .before .before .before .before .before .before .before .before .before .before .before .before .before .before .before .before .before .before .before .args .first .receiver)) (c .before .before .rest .given .1) (c .before .before .before .before .before .before .before .before .pass .ensures) in
+    let f = subst (LeftFits (c .before .before .before .before .before .before .before .before .before .before .before .before .before .before .before .before .before .before .before .before .before .before .before .before .before .before .before .before .before .before .before .before .before .before .before .args .first .receiver)) (c .before .before .rest .given .1) (c .before .before .before .before .before .before .before .before .pass .ensures .0) in
     (f .0, f .1 _)
 
 same-length-9 : tie.Need-same-length-9 Inv-loop μ-loop
@@ -185,7 +185,7 @@ loop-again c =
     let l = c .before .before .before .before .before .before .before .before .before .before .before .before .before .before .before .before .before .before .before .before .before .before .before .loop in
     let w = data-within _ (s .args .block .now) _ (l .from) (s .args .till) _ (l .inv .1 .1 .0) (sym (c .before .before .before .before .before .before .before .before .before .before .before .before .before .before .before .before .before .before .before .read-record .ensures) ∙ c .before .before .before .before .before .before .before .before .before .before .before .before .before .before .before .before .before .said .given .1) (c .before .before .before .before .before .before .before .before .before .before .before .before .before .data-of .ensures) in
     let i = l .inv .1 in
-    let t = subst (LeftFits (s .args .first .receiver)) (c .before .before .before .rest2 .given .1) (c .before .before .before .before .before .before .before .before .before .pass .ensures) in
+    let t = subst (LeftFits (s .args .first .receiver)) (c .before .before .before .rest2 .given .1) (c .before .before .before .before .before .before .before .before .before .pass .ensures .0) in
     (t, (omega (arith, i .0), (omega (arith, w), (omega (arith, c .before .before .before .before .before .before .before .before .room .given, i .1 .1 .0), (c .before .before .before .before .before .before .before .before .room .given ∙ i .1 .1 .1 .0, c .before .before .before .before .before .before .out .given ∙ i .1 .1 .1 .1)))))
 
 before-requires-5 : tie.Need-before-requires-5 Inv-loop μ-loop
