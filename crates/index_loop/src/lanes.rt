@@ -7,10 +7,10 @@ ghost use Rattle.receiver.specs.State.{Able};
 ghost use Rattle.receiver.specs.Lanes.{Tidy, inLane};
 ghost use Rattle.receiver.specs.Lows.{lowsOf};
 ghost use Rattle.receiver.specs.Place.{placeAt};
-ghost use Rattle.receiver.specs.declared.Stage.the-variants.{Due, Plain};
+ghost use Rattle.receiver.specs.declared.Stage.the-variants.{Fresh, Due, Plain};
 ghost use Rattle.receiver.specs.declared.lane.Lane.the-variants.{Idle};
-ghost use Rattle.index_loop.specs.Walking.{Ready, Ahead};
-ghost use Rattle.index_loop.specs.Lanes.{metText, lowText, Looked, SetOut, wayBy, plainAt, partBy, LeftFits, Leaves, LeavesBy, PartFits, PartedBy, PassedBy, startStage};
+ghost use Rattle.index_loop.specs.Walking.{Ready, Ahead, Taken};
+ghost use Rattle.index_loop.specs.Lanes.{metText, lowText, Looked, SetOut, wayBy, plainAt, partBy, LeftFits, Leaves, LeavesBy, PartFits, PartedBy, PassedBy, RunIn, startStage};
 use crate::FINDS;
 use crate::RECORDS;
 use crate::Run;
@@ -447,7 +447,7 @@ fn run_of(
 ) -> Run
     requires { ⌜ Tidy (base .limit) lane ⌝ }
     requires { ⌜ Able (inLane base count lane stage place) ⌝ }
-    ensures { λ r. ⌜ Able (r .receiver) × (r .from ≡ from) ⌝ }
+    ensures { λ r. ⌜ RunIn base count lane stage place «record» at from r ⌝ }
 {
     Run {
         receiver: lane::in_lane(base, count, lane, stage, place),
@@ -460,7 +460,7 @@ fn run_of(
 // The same, before a TP.
 fn before(base: Receiver, count: u64, lane: Lane, record: u64, at: usize, from: usize) -> Run
     requires { ⌜ Able base × Tidy (base .limit) lane ⌝ }
-    ensures { λ r. ⌜ Able (r .receiver) × (r .from ≡ from) ⌝ }
+    ensures { λ r. ⌜ RunIn base count lane Fresh 0 «record» at from r ⌝ }
 {
     run_of(base, count, lane, Stage::Fresh, 0, record, at, from)
 }
@@ -479,6 +479,7 @@ pub fn pass_all(
 ) -> Run
     requires { ⌜ Ready first till (length (now block)) ⌝ }
     ensures { λ r. ⌜ Ahead first till r ⌝ }
+    ensures { λ r. ⌜ Taken task gone till (now (block .entry)) first (now (room .entry)) (now (out .entry)) r (now (room .exit)) (now (out .exit)) ⌝ }
 {
     let Task::Index(covered) = task else {
         return first;

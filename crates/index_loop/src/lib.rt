@@ -5,7 +5,7 @@ ghost use Prim.Native.Nat.{_+_, _<_};
 ghost use lib.ListN.{length};
 ghost use Rattle.receiver.specs.State.{Able};
 ghost use Rattle.block.specs.Block.{put as Block·put};
-ghost use Rattle.index_loop.specs.Walking.{textOf, Found, Onward, Ready, Ahead, Lies, Walked, Heard, Does};
+ghost use Rattle.index_loop.specs.Walking.{textOf, Found, Onward, Ready, Ahead, Lies, Walked, Heard, Does, Taken};
 
 mod lanes;
 
@@ -215,6 +215,7 @@ fn turns(
 ) -> Run
     requires { ⌜ Ready first till (length (now block)) ⌝ }
     ensures { λ r. ⌜ Ahead first till r ⌝ }
+    ensures { λ r. ⌜ Taken task gone till (now (block .entry)) first (now (room .entry)) (now (out .entry)) r (now (room .exit)) (now (out .exit)) ⌝ }
 {
     let mut run = first;
     let mut left = RECORDS;

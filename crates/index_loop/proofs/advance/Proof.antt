@@ -28,7 +28,7 @@ turns-requires c κs =
 go-on-requires : tie.Need-go-on-requires Inv-loop μ-loop
 go-on-requires c κs =
     let i = c .before .before .before .before .before .before .before .before .before .before .before .loop .inv in
-    record { from = c .before .before .before .before .before .before .turns .ensures .end; end = i .1 .0 .end }
+    record { from = c .before .before .before .before .before .before .turns .ensures .0 .end; end = i .1 .0 .end }
 
 enum-told : tie.Need-enum-told Inv-loop μ-loop
 enum-told c = search needs
@@ -43,7 +43,7 @@ same-length-3 : tie.Need-same-length-3 Inv-loop μ-loop
 same-length-3 c = c .before .before .before .before .before .before .before .before .out .given ∙ c .before .before .before .before .before .before .before .before .before .before .before .before .before .before .before .before .loop .inv .1 .1 .1 .1
 
 returns : tie.Need-returns Inv-loop μ-loop
-returns c = record { able = c .before .before .before .before .before .before .before .before .before .before .before .turns .ensures .able; lies = c .before .before .before .before .go-on .ensures }
+returns c = record { able = c .before .before .before .before .before .before .before .before .before .before .before .turns .ensures .0 .able; lies = c .before .before .before .before .go-on .ensures }
 
 same-length-4 : tie.Need-same-length-4 Inv-loop μ-loop
 same-length-4 c = c .before .before .before .before .before .block .given ∙ c .before .before .before .before .before .before .before .before .before .before .before .before .before .before .before .before .before .before .loop .inv .1 .1 .0
@@ -55,7 +55,7 @@ same-length-6 : tie.Need-same-length-6 Inv-loop μ-loop
 same-length-6 c = c .before .before .before .before .before .before .before .before .before .before .out .given ∙ c .before .before .before .before .before .before .before .before .before .before .before .before .before .before .before .before .before .before .loop .inv .1 .1 .1 .1
 
 returns-2 : tie.Need-returns-2 Inv-loop μ-loop
-returns-2 c = record { able = c .before .before .before .before .before .before .before .before .before .before .before .before .before .turns .ensures .able; lies = c .before .before .before .before .before .before .go-on .ensures }
+returns-2 c = record { able = c .before .before .before .before .before .before .before .before .before .before .before .before .before .turns .ensures .0 .able; lies = c .before .before .before .before .before .before .go-on .ensures }
 
 sub-left : tie.Need-sub-left Inv-loop μ-loop
 sub-left c = omega (arith, c .before .before .before .before .before .before .before .before .before .before .before .before .before .before .before .before .before .loop-test .taken)
@@ -66,7 +66,7 @@ loop-less c = omega (arith, c .before .before .before .before .before .before .b
 loop-again : tie.Need-loop-again Inv-loop μ-loop
 loop-again c =
     let i = c .before .before .before .before .before .before .before .before .before .before .before .before .before .before .before .before .before .before .loop .inv .1 .1 in
-    (c .before .before .before .before .before .before .before .before .before .before .before .before .before .turns .ensures .able, (c .before .before .before .before .before .before .go-on .ensures, (c .before .before .before .before .before .block .given ∙ i .0, (c .before .before .before .before .before .before .before .before .before .before .before .before .room .given ∙ i .1 .0, c .before .before .before .before .before .before .before .before .before .before .out .given ∙ i .1 .1))))
+    (c .before .before .before .before .before .before .before .before .before .before .before .before .before .turns .ensures .0 .able, (c .before .before .before .before .before .before .go-on .ensures, (c .before .before .before .before .before .block .given ∙ i .0, (c .before .before .before .before .before .before .before .before .before .before .before .before .room .given ∙ i .1 .0, c .before .before .before .before .before .before .before .before .before .before .out .given ∙ i .1 .1))))
 
 same-length-7 : tie.Need-same-length-7 Inv-loop μ-loop
 same-length-7 c = search needs
