@@ -5,6 +5,7 @@ ghost use Prim.Native.Nat.{_+_, _<_};
 ghost use lib.ListN.{length};
 ghost use Rattle.receiver.specs.State.{Able};
 ghost use Rattle.block.specs.Block.{put as Block·put};
+ghost use Rattle.index_loop.specs.Advancing.{GoesOn, ReadsOn, Advanced};
 ghost use Rattle.index_loop.specs.Walking.{textOf, Found, Onward, Ready, Ahead, Lies, Walked, Heard, Does, Taken};
 
 mod lanes;
@@ -248,6 +249,7 @@ fn turns(
 fn read_on(fd: i32, block: &mut [u8], unread: Unread) -> Next
     requires { ⌜ Lies (length (now block)) unread ⌝ }
     ensures { λ r. ⌜ Lies (length (now (block .exit))) (r .unread) ⌝ }
+    ensures { λ r. ⌜ ReadsOn (now (block .entry)) unread (r .stop) (r .unread) (now (block .exit)) ⌝ }
 {
     let begin = files::sum(unread.gone, unread.from as u64);
     let n = unread.till - unread.from;
@@ -279,6 +281,7 @@ fn read_on(fd: i32, block: &mut [u8], unread: Unread) -> Next
 fn go_on(fd: i32, block: &mut [u8], unread: Unread) -> Next
     requires { ⌜ Lies (length (now block)) unread ⌝ }
     ensures { λ r. ⌜ Lies (length (now (block .exit))) (r .unread) ⌝ }
+    ensures { λ r. ⌜ GoesOn (now (block .entry)) unread (r .stop) (r .unread) (now (block .exit)) ⌝ }
 {
     match house::read_record(Place::Listing, console::bytes_of(block, unread)) {
         AtHand::Bad(fault) => Next {
@@ -305,6 +308,7 @@ pub fn advance(
 ) -> Walk
     requires { ⌜ Walked (length (now block)) first ⌝ }
     ensures { λ r. ⌜ Walked (length (now (block .exit))) r ⌝ }
+    ensures { λ r. ⌜ Advanced task first (now (block .entry)) (now (room .entry)) (now (out .entry)) r (now (block .exit)) (now (room .exit)) (now (out .exit)) ⌝ }
 {
     let mut receiver = first.receiver;
     let mut record = first.record;
