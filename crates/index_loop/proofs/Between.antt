@@ -26,7 +26,7 @@ use Rattle.index_loop.specs.declared.lanes.Left.{Left}
 use Rattle.index_loop.specs.declared.lanes.Left.the-variants.{Nothing, All, From}
 use Rattle.index_loop.specs.declared.lanes.Passed.{Passed}
 use Rattle.index_loop.specs.Lanes.{BegunBy, PassedBy, RunIn}
-use Rattle.index_loop.specs.Walking.{Ends, Pauses, Standing, standing, Takes, stays, pauses, ends, blockOf, stampOf, sumOf}
+use Rattle.index_loop.specs.Walking.{Standing, standing, Takes, stays, pauses, ends, blockOf, stampOf, sumOf}
 use Rattle.index_loop.proofs.Hearing.{stands}
 
 -- a receiver's lane is that receiver

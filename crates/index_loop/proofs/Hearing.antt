@@ -21,7 +21,7 @@ use Rattle.receiver.specs.declared.Step.{Step}
 use Rattle.index_loop.specs.declared.Run.{Run}
 use Rattle.index_loop.specs.declared.Task.{Task}
 use Rattle.index_loop.specs.declared.Went.{Went}
-use Rattle.index_loop.specs.Walking.{Found, Hears, nothing, then, Ends, last, Pauses, Heard, Told, Does, Standing, standing, Takes, stays, pauses, ends, gap, Taken, blockOf, puts, stampOf, sumOf}
+use Rattle.index_loop.specs.Walking.{Found, Hears, nothing, then, Ends, last, Pauses, Heard, Told, Does, Standing, standing, Takes, stays, pauses, ends, gap, Taken, blockOf, puts, sumOf}
 
 -- ---- one find more
 

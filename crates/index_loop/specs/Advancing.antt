@@ -67,3 +67,19 @@ pub record Advanced (task : Task) (first : Walk) (d m o : List ℕ) (r : Walk) (
   pub last : List ℕ
   pub taken : Advances task (reached first d m o) (reached r last m′ o′)
   pub stop : StopsAt last (r .unread) (r .stop) d′
+
+-- before the record n, whose first byte this is: nothing is read, and nothing held
+pub record Starts (x : Receiver) (n byte : ℕ) (w : Walk) : Type 0 where
+  pub receiver : w .receiver ≡ x
+  pub number : w .record ≡ n
+  pub at : w .at ≡ 0
+  pub unread : w .unread ≡ record { gone = byte; from = 0; till = 0 }
+  pub stop : w .stop ≡ More
+
+-- the same walk with nothing held
+pub record Empties (a w : Walk) : Type 0 where
+  pub receiver : w .receiver ≡ a .receiver
+  pub number : w .record ≡ a .record
+  pub at : w .at ≡ 0
+  pub unread : w .unread ≡ a .unread
+  pub stop : w .stop ≡ a .stop

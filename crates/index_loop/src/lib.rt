@@ -5,7 +5,7 @@ ghost use Prim.Native.Nat.{_+_, _<_};
 ghost use lib.ListN.{length};
 ghost use Rattle.receiver.specs.State.{Able};
 ghost use Rattle.block.specs.Block.{put as Block·put};
-ghost use Rattle.index_loop.specs.Advancing.{GoesOn, ReadsOn, Advanced};
+ghost use Rattle.index_loop.specs.Advancing.{GoesOn, ReadsOn, Advanced, Starts, Empties};
 ghost use Rattle.index_loop.specs.Walking.{textOf, Found, Onward, Ready, Ahead, Lies, Walked, Heard, Does, Taken};
 
 mod lanes;
@@ -365,6 +365,7 @@ pub fn advance(
 pub fn start(receiver: Receiver, record: u64, byte: u64) -> Walk
     requires { ⌜ Able receiver ⌝ }
     ensures { λ r. ⌜ Walked 0 r ⌝ }
+    ensures { λ r. ⌜ Starts receiver «record» byte r ⌝ }
 {
     Walk {
         receiver,
@@ -383,6 +384,7 @@ pub fn start(receiver: Receiver, record: u64, byte: u64) -> Walk
 pub fn emptied(walk: Walk) -> Walk
     requires { ⌜ Able (walk .receiver) ⌝ }
     ensures { λ r. ⌜ (r .unread ≡ walk .unread) × Able (r .receiver) ⌝ }
+    ensures { λ r. ⌜ Empties walk r ⌝ }
 {
     let receiver = walk.receiver;
     let unread = walk.unread;

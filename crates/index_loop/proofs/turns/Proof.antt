@@ -1,6 +1,5 @@
 -- `index_loop::turns` meets its contract: what lanes take and what turns take follow each other. It ends: it counts down.
 -- Assumes nothing.
-use Prim.Native.Nat.{_-_}
 use mathlib.Core.Path.{_≡_, refl, sym, _∙_}
 use native.Mathlib.Omega.{arith}
 use lib.ListN.{length}

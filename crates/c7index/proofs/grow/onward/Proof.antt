@@ -91,7 +91,7 @@ loop-less c = omega (arith, c .before .before .before .before .before .before .b
 
 loop-again : tie.Need-loop-again Inv-loop μ-loop
 loop-again c =
-    let e = c .emptied .ensures in
+    let e = c .emptied .ensures .0 in
     let i = c .before .before .before .before .before .before .before .before .before .before .before .before .before .before .before .before .before .before .before .before .before .before .loop .inv .1 in
     (record { able = e .1; lies = subst⁻¹ (Lies _) (e .0) (c .before .before .before .before .before .before .before .before .before .before .before .before .before .before .before .before .before .advance .ensures .0 .lies) }, (c .before .before .before .before .before .before .before .before .before .before .before .before .before .before .before .before .block .given ∙ i .0, (c .before .before .before .before .before .before .before .before .before .before .before .before .before .before .room .given ∙ i .1 .0, c .before .before .before .before .before .before .before .before .before .before .before .before .out .given ∙ i .1 .1)))
 
