@@ -64,7 +64,7 @@ way-fits b (M.Ends l) here k t g tp m m′ e a f = a .1
 way-fits b (M.Reads i) here k t g tp m m′ e a f = omega (arith, a .1, e)
 way-fits b (M.Gives c r p n i) here k t g tp m m′ e a f = omega (arith, a .1, e)
 
-lends-on : (b : Receiver) (at i : ℕ) (tp m m′ : List ℕ) → Lends b at tp m → length m′ ≡ length m → i ≤ b .size → Lends b i tp m′
+pub lends-on : (b : Receiver) (at i : ℕ) (tp m m′ : List ℕ) → Lends b at tp m → length m′ ≡ length m → i ≤ b .size → Lends b i tp m′
 lends-on b at i tp m m′ e s h = record { size = e .size; whole = e .whole; full = omega (arith, s, e .full); within = omega (arith, h, e .whole) }
 
 -- what lends a TP from place o on lends it from this place on
@@ -100,8 +100,11 @@ module _ (l : Lane) (o at : ℕ) (tp m m′ : List ℕ) (covered : ℕ) (t : Sta
   pub out-leaves : (x : Left) → w ≡ Off x → Leaves at tp m x
   out-leaves x g b e = subst (WayFits b) g (out-fits b e)
 
+  pub out-lent : (i : ℕ) → w ≡ On i → length m′ ≡ length m → Lent at tp m i m′
+  out-lent i g s b e = lends-on b at i tp m m′ e s (subst (WayFits b) g (out-fits b e))
+
   pub out-then : (i : ℕ) (x : Left) → w ≡ On i → length m′ ≡ length m → Leaves i tp m′ x → Leaves at tp m x
-  out-then i x g s v b e = v b (lends-on b at i tp m m′ e s (subst (WayFits b) g (out-fits b e)))
+  out-then i x g s v b e = v b (out-lent i g s b e)
 
 pub due-leaves : (l : Lane) (o at : ℕ) (tp m : List ℕ) → Tidy (length m) l → 4 ≤ at → o < 2048 → Leaves at tp m (From l (Due o) at)
 due-leaves l o at tp m t four small b e = from-fits b l (Due o) at e t (small, four)
@@ -111,8 +114,11 @@ low-leaves l o at p tp m t small f e b d =
     let h = subst (PartFits (length tp)) e f in
     from-fits b l (Low o) at (lends-on b 4 at tp m m d refl (omega (arith, h .1, d .whole))) t (small, h .0)
 
+pub behind-lent : (at : ℕ) (p : Part) (tp m : List ℕ) → PartFits (length tp) p → p ≡ Behind at → Lent 4 tp m at m
+behind-lent at p tp m f e b d = let h = subst (PartFits (length tp)) e f in lends-on b 4 at tp m m d refl (omega (arith, h .1, d .whole))
+
 pub behind-leaves : (at : ℕ) (p : Part) (tp m : List ℕ) (x : Left) → PartFits (length tp) p → p ≡ Behind at → Leaves at tp m x → Leaves 4 tp m x
-behind-leaves at p tp m x f e v b d = let h = subst (PartFits (length tp)) e f in v b (lends-on b 4 at tp m m d refl (omega (arith, h .1, d .whole)))
+behind-leaves at p tp m x f e v b d = v b (behind-lent at p tp m f e b d)
 
 pub behind-four : (n at : ℕ) (p : Part) → PartFits n p → p ≡ Behind at → 4 ≤ at
 behind-four n at p f e = subst (PartFits n) e f .0
@@ -153,10 +159,11 @@ says r tp low o e = by (eqb (length tp) (r .size)) refl e
     by false q e = let z : _≡_ {A = ℕ} 0 1 = cc in (omega arith, omega arith)
 
 -- a TP in a lane, by what its payload leaves
+pub says-lends : (r : Receiver) (tp m : List ℕ) (low : Bool) (o : ℕ) → Able r → length m ≡ r .limit → topIn r tp ≡ Says low o → Lends r 4 tp m
+says-lends r tp m low o a f e = let w = says r tp low o e .0 in record { size = a .size; whole = w; full = f; within = omega (arith, w, a .size) }
+
 pub says-leaves : (r : Receiver) (tp m : List ℕ) (low : Bool) (o : ℕ) (l : Left) → Able r → length m ≡ r .limit → topIn r tp ≡ Says low o → Leaves 4 tp m l → LeftFits r l
-says-leaves r tp m low o l a f e v =
-    let w = says r tp low o e .0 in
-    v r (record { size = a .size; whole = w; full = f; within = omega (arith, w, a .size) })
+says-leaves r tp m low o l a f e v = v r (says-lends r tp m low o a f e)
 
 pub laned : (l : Lane) (r : Receiver) → LanedAs l r → (l ≡ L.Other → 1 ≤ 0) → Tidy (r .limit) l
 laned L.Other r a n = n refl

@@ -1,15 +1,16 @@
--- TPs in lanes: the line that is put for what is met, and what of a TP is left to calls. Assumes nothing.
-use Prim.Native.Nat.{ℕ, _≤_}
+-- TPs in lanes: the line that is put for what is met, what of a TP is left to calls, and by which calls it is left. Assumes nothing.
+use Prim.Native.Nat.{ℕ, _≤_, _<_}
 use mathlib.Core.Path.{_≡_}
-use mathlib.Core.Bool.{cond}
+use mathlib.Core.Bool.{Bool, cond}
 use mathlib.Core.List.{List, []}
-use Rattle.block.specs.Block.{put}
+use Rattle.block.specs.Block.{Block, put}
 use Rattle.receiver.specs.State.{Able}
 use Rattle.receiver.specs.Lanes.{Tidy, Lends, AheadAs, OutAs, inLane}
-use Rattle.receiver.specs.Place.{placeAt}
+use Rattle.receiver.specs.Place.{placeAt, countOf}
 use Rattle.receiver.specs.declared.Find.the-variants.{Ordinary}
 use Rattle.receiver.specs.declared.Receiver.{Receiver}
-use Rattle.receiver.specs.declared.Stage.the-variants.{Plain}
+use Rattle.receiver.specs.declared.Stage.{Stage}
+use Rattle.receiver.specs.declared.Stage.the-variants.{Fresh, Low, Due, Plain}
 use Rattle.receiver.specs.declared.Stamp.{Stamp}
 use Rattle.receiver.specs.declared.lane.Lane.{Lane}
 use Rattle.receiver.specs.declared.lane.Lane.the-variants.{Lost, Idle}
@@ -23,6 +24,11 @@ use Rattle.index_loop.specs.declared.lanes.Left.the-variants.{Nothing, A
 use Rattle.index_loop.specs.declared.lanes.Noted.{Noted}
 use Rattle.index_loop.specs.declared.lanes.Part.{Part}
 use Rattle.index_loop.specs.declared.lanes.Part.the-variants.{Within, Broken, Behind}
+use Rattle.index_loop.specs.declared.lanes.Parted.{Parted}
+use Rattle.index_loop.specs.declared.lanes.Passed.{Passed}
+use Rattle.index_loop.specs.declared.Run.{Run}
+use Rattle.index_loop.specs.declared.Task.the-variants.{Index}
+use Rattle.index_loop.specs.Walking.{Ends, Pauses, blockOf}
 use Rattle.index_loop.specs.declared.lanes.Way.{Way}
 use Rattle.index_loop.specs.declared.lanes.Way.the-variants.{On, Off}
 
@@ -82,3 +88,50 @@ abbrev pub partBy : Lows → Part
 partBy (L.Broken i) = Broken
 partBy (L.End i) = Behind i
 partBy (L.Gives f e i more end) = cond more (Within end) (Behind end)
+
+-- ---- the calls by which it is left
+
+-- a TP that is begun, by calls from the receiver r on, in lanes of b's settings, so many TPs counted: it ended, and the next begins in this
+-- lane; or it has more to give
+abbrev pub LeftBy : ℕ → Stamp → List ℕ → Receiver → ℕ → Receiver → List ℕ → Block → Left → List ℕ → Block → Type 0
+LeftBy covered t tp b k r m o (Nothing l) m′ o′ = Ends (Index covered) t tp r m o (inLane b k l Fresh 0) m′ o′
+LeftBy covered t tp b k r m o All m′ o′ = 1 ≤ 0
+LeftBy covered t tp b k r m o (From l s i) m′ o′ = Pauses (Index covered) t tp r m o (inLane b k l s i) m′ o′
+
+-- whatever receiver lends this TP and this room, from this lane, stage and place on
+abbrev pub LeavesBy : ℕ → Stamp → Lane → Stage → ℕ → List ℕ → List ℕ → List ℕ → ℕ → Passed → List ℕ → List ℕ → Type 0
+LeavesBy covered t l s at tp m out held r m′ out′ =
+    (b : Receiver) (k : ℕ) → Lends b at tp m → LeftBy covered t tp b k (inLane b k l s at) m (blockOf out held) (r .left) m′ (blockOf out′ (r .at))
+
+-- at the payload's start: with a low-latency part, or without
+abbrev pub startStage : Bool → ℕ → Stage
+startStage low o = cond low (Low o) (Due o)
+
+-- the low-latency part of a TP with this offset: in it; broken, which ends the TP out of step; or behind it. The room stays
+abbrev pub PartBy : ℕ → Stamp → List ℕ → Receiver → ℕ → Lane → ℕ → Receiver → List ℕ → Block → Part → Block → Type 0
+PartBy covered t tp b k l o r m x (Within i) x′ = Pauses (Index covered) t tp r m x (inLane b k l (Low o) i) m x′
+PartBy covered t tp b k l o r m x Broken x′ = Ends (Index covered) t tp r m x (inLane b k Lost Fresh 0) m x′
+PartBy covered t tp b k l o r m x (Behind i) x′ = Pauses (Index covered) t tp r m x (inLane b k l (Due o) i) m x′
+
+abbrev pub PartedBy : ℕ → Stamp → Bool → List ℕ → List ℕ → ℕ → Parted → List ℕ → Type 0
+PartedBy covered t low tp out held r out′ =
+    (b : Receiver) (k : ℕ) (l : Lane) (o : ℕ) (m : List ℕ) → Lends b 4 tp m → Tidy (b .limit) l → o < 2048
+    → PartBy covered t tp b k l o (inLane b k l (startStage low o) 4) m (blockOf out held) (r .part) (blockOf out′ (r .at))
+
+-- a TP before its first call, which counts it: not begun, with nothing done; or as above
+abbrev pub BegunBy : ℕ → Stamp → List ℕ → Receiver → ℕ → Receiver → List ℕ → Block → Left → List ℕ → Block → Type 0
+BegunBy covered t tp b k r m o All m′ o′ = (m′ ≡ m) × (o′ ≡ o)
+BegunBy covered t tp b k r m o (Nothing l) m′ o′ = LeftBy covered t tp b k r m o (Nothing l) m′ o′
+BegunBy covered t tp b k r m o (From l s i) m′ o′ = LeftBy covered t tp b k r m o (From l s i) m′ o′
+
+abbrev pub PassedBy : ℕ → Stamp → Lane → Receiver → List ℕ → List ℕ → List ℕ → ℕ → Passed → List ℕ → List ℕ → Type 0
+PassedBy covered t l b tp m out held r m′ out′ =
+    (k : ℕ) → BegunBy covered t tp b (countOf k) (inLane b k l Fresh 0) m (blockOf out held) (r .left) m′ (blockOf out′ (r .at))
+
+-- as a loop over calls goes on: in a lane and stage of b's settings, at this place, before the record n that begins at f, with h bytes held
+pub record RunIn (b : Receiver) (k : ℕ) (l : Lane) (s : Stage) (i n h f : ℕ) (r : Run) : Type 0 where
+  pub able : Able (r .receiver)
+  pub receiver : r .receiver ≡ inLane b k l s i
+  pub number : r .record ≡ n
+  pub at : r .at ≡ h
+  pub from : r .from ≡ f

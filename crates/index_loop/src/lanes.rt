@@ -7,8 +7,10 @@ ghost use Rattle.receiver.specs.State.{Able};
 ghost use Rattle.receiver.specs.Lanes.{Tidy, inLane};
 ghost use Rattle.receiver.specs.Lows.{lowsOf};
 ghost use Rattle.receiver.specs.Place.{placeAt};
-ghost use Rattle.index_loop.specs.Walking.{Ready, Ahead};
-ghost use Rattle.index_loop.specs.Lanes.{metText, lowText, Looked, SetOut, wayBy, plainAt, partBy, LeftFits, Leaves, PartFits};
+ghost use Rattle.receiver.specs.declared.Stage.the-variants.{Fresh, Due, Plain};
+ghost use Rattle.receiver.specs.declared.lane.Lane.the-variants.{Idle};
+ghost use Rattle.index_loop.specs.Walking.{Ready, Ahead, Taken};
+ghost use Rattle.index_loop.specs.Lanes.{metText, lowText, Looked, SetOut, wayBy, plainAt, partBy, LeftFits, Leaves, LeavesBy, PartFits, PartedBy, PassedBy, RunIn, startStage};
 use crate::FINDS;
 use crate::RECORDS;
 use crate::Run;
@@ -219,6 +221,7 @@ fn run_on(
     held: usize,
 ) -> Passed
     ensures { λ r. ⌜ Leaves begin (now (tp .entry)) (now (room .entry)) (r .left) ⌝ }
+    ensures { λ r. ⌜ LeavesBy covered stamp Idle Plain begin (now (tp .entry)) (now (room .entry)) (now (out .entry)) held r (now (room .exit)) (now (out .exit)) ⌝ }
 {
     let mut at = held;
     let mut place = begin;
@@ -263,6 +266,7 @@ fn ordinary(
     requires { ⌜ Tidy (length (now room)) lane ⌝ }
     requires { ⌜ (4 ≤ place) × (offset < 2048) ⌝ }
     ensures { λ r. ⌜ Leaves place (now (tp .entry)) (now (room .entry)) (r .left) ⌝ }
+    ensures { λ r. ⌜ LeavesBy covered stamp lane (Due offset) place (now (tp .entry)) (now (room .entry)) (now (out .entry)) at r (now (room .exit)) (now (out .exit)) ⌝ }
 {
     let due = Left::From {
         lane,
@@ -314,6 +318,7 @@ fn low_part(
 ) -> Parted
     requires { ⌜ 4 ≤ length (now tp) ⌝ }
     ensures { λ r. ⌜ PartFits (length (now (tp .entry))) (r .part) ⌝ }
+    ensures { λ r. ⌜ PartedBy covered stamp present (now (tp .entry)) (now (out .entry)) held r (now (out .exit)) ⌝ }
 {
     if !present {
         return Parted {
@@ -363,6 +368,7 @@ fn payload(
     requires { ⌜ Tidy (length (now room)) lane ⌝ }
     requires { ⌜ (4 ≤ length (now tp)) × (offset < 2048) ⌝ }
     ensures { λ r. ⌜ Leaves 4 (now (tp .entry)) (now (room .entry)) (r .left) ⌝ }
+    ensures { λ r. ⌜ LeavesBy covered stamp lane (startStage present offset) 4 (now (tp .entry)) (now (room .entry)) (now (out .entry)) held r (now (room .exit)) (now (out .exit)) ⌝ }
 {
     let parted = low_part(covered, full, present, stamp, tp, out, held);
     let at = parted.at;
@@ -411,6 +417,7 @@ fn pass(
     requires { ⌜ length (now room) ≡ base .limit ⌝ }
     requires { ⌜ Tidy (base .limit) lane ⌝ }
     ensures { λ r. ⌜ LeftFits base (r .left) ⌝ }
+    ensures { λ r. ⌜ PassedBy covered stamp lane base (now (tp .entry)) (now (room .entry)) (now (out .entry)) at r (now (room .exit)) (now (out .exit)) ⌝ }
 {
     match lane::top(base, tp) {
         Top::Elsewhere => Passed {
@@ -440,7 +447,7 @@ fn run_of(
 ) -> Run
     requires { ⌜ Tidy (base .limit) lane ⌝ }
     requires { ⌜ Able (inLane base count lane stage place) ⌝ }
-    ensures { λ r. ⌜ Able (r .receiver) × (r .from ≡ from) ⌝ }
+    ensures { λ r. ⌜ RunIn base count lane stage place «record» at from r ⌝ }
 {
     Run {
         receiver: lane::in_lane(base, count, lane, stage, place),
@@ -453,7 +460,7 @@ fn run_of(
 // The same, before a TP.
 fn before(base: Receiver, count: u64, lane: Lane, record: u64, at: usize, from: usize) -> Run
     requires { ⌜ Able base × Tidy (base .limit) lane ⌝ }
-    ensures { λ r. ⌜ Able (r .receiver) × (r .from ≡ from) ⌝ }
+    ensures { λ r. ⌜ RunIn base count lane Fresh 0 «record» at from r ⌝ }
 {
     run_of(base, count, lane, Stage::Fresh, 0, record, at, from)
 }
@@ -472,6 +479,7 @@ pub fn pass_all(
 ) -> Run
     requires { ⌜ Ready first till (length (now block)) ⌝ }
     ensures { λ r. ⌜ Ahead first till r ⌝ }
+    ensures { λ r. ⌜ Taken task gone till (now (block .entry)) first (now (room .entry)) (now (out .entry)) r (now (room .exit)) (now (out .exit)) ⌝ }
 {
     let Task::Index(covered) = task else {
         return first;

@@ -5,7 +5,8 @@ ghost use Prim.Native.Nat.{_+_, _<_};
 ghost use lib.ListN.{length};
 ghost use Rattle.receiver.specs.State.{Able};
 ghost use Rattle.block.specs.Block.{put as Block·put};
-ghost use Rattle.index_loop.specs.Walking.{textOf, Found, Onward, Ready, Ahead, Lies, Walked};
+ghost use Rattle.index_loop.specs.Advancing.{GoesOn, ReadsOn, Advanced, Starts, Empties};
+ghost use Rattle.index_loop.specs.Walking.{textOf, Found, Onward, Ready, Ahead, Lies, Walked, Heard, Does, Taken};
 
 mod lanes;
 
@@ -133,6 +134,7 @@ fn finds(
     requires { ⌜ Able (first .receiver) ⌝ }
     requires { ⌜ first .from + 8 + length (now tp) < 18446744073709551616 ⌝ }
     ensures { λ r. ⌜ Onward first (length (now (tp .entry))) r ⌝ }
+    ensures { λ r. ⌜ Heard task gone (now (tp .entry)) first (now (room .entry)) (now (out .entry)) r (now (room .exit)) (now (out .exit)) ⌝ }
 {
     let record = first.record;
     let from = first.from;
@@ -187,6 +189,7 @@ fn turn(
     requires { ⌜ Able (run .receiver) ⌝ }
     requires { ⌜ run .from + 8 + length (now «data») < 18446744073709551616 ⌝ }
     ensures { λ r. ⌜ Onward run (length (now («data» .entry))) r ⌝ }
+    ensures { λ r. ⌜ Does said task gone (now («data» .entry)) run (now (room .entry)) (now (out .entry)) r (now (room .exit)) (now (out .exit)) ⌝ }
 {
     if let Record::Packet { length: _ } = said {
         return finds(task, full, gone, run, data, room, out);
@@ -213,6 +216,7 @@ fn turns(
 ) -> Run
     requires { ⌜ Ready first till (length (now block)) ⌝ }
     ensures { λ r. ⌜ Ahead first till r ⌝ }
+    ensures { λ r. ⌜ Taken task gone till (now (block .entry)) first (now (room .entry)) (now (out .entry)) r (now (room .exit)) (now (out .exit)) ⌝ }
 {
     let mut run = first;
     let mut left = RECORDS;
@@ -245,6 +249,7 @@ fn turns(
 fn read_on(fd: i32, block: &mut [u8], unread: Unread) -> Next
     requires { ⌜ Lies (length (now block)) unread ⌝ }
     ensures { λ r. ⌜ Lies (length (now (block .exit))) (r .unread) ⌝ }
+    ensures { λ r. ⌜ ReadsOn (now (block .entry)) unread (r .stop) (r .unread) (now (block .exit)) ⌝ }
 {
     let begin = files::sum(unread.gone, unread.from as u64);
     let n = unread.till - unread.from;
@@ -276,6 +281,7 @@ fn read_on(fd: i32, block: &mut [u8], unread: Unread) -> Next
 fn go_on(fd: i32, block: &mut [u8], unread: Unread) -> Next
     requires { ⌜ Lies (length (now block)) unread ⌝ }
     ensures { λ r. ⌜ Lies (length (now (block .exit))) (r .unread) ⌝ }
+    ensures { λ r. ⌜ GoesOn (now (block .entry)) unread (r .stop) (r .unread) (now (block .exit)) ⌝ }
 {
     match house::read_record(Place::Listing, console::bytes_of(block, unread)) {
         AtHand::Bad(fault) => Next {
@@ -302,6 +308,7 @@ pub fn advance(
 ) -> Walk
     requires { ⌜ Walked (length (now block)) first ⌝ }
     ensures { λ r. ⌜ Walked (length (now (block .exit))) r ⌝ }
+    ensures { λ r. ⌜ Advanced task first (now (block .entry)) (now (room .entry)) (now (out .entry)) r (now (block .exit)) (now (room .exit)) (now (out .exit)) ⌝ }
 {
     let mut receiver = first.receiver;
     let mut record = first.record;
@@ -358,6 +365,7 @@ pub fn advance(
 pub fn start(receiver: Receiver, record: u64, byte: u64) -> Walk
     requires { ⌜ Able receiver ⌝ }
     ensures { λ r. ⌜ Walked 0 r ⌝ }
+    ensures { λ r. ⌜ Starts receiver «record» byte r ⌝ }
 {
     Walk {
         receiver,
@@ -376,6 +384,7 @@ pub fn start(receiver: Receiver, record: u64, byte: u64) -> Walk
 pub fn emptied(walk: Walk) -> Walk
     requires { ⌜ Able (walk .receiver) ⌝ }
     ensures { λ r. ⌜ (r .unread ≡ walk .unread) × Able (r .receiver) ⌝ }
+    ensures { λ r. ⌜ Empties walk r ⌝ }
 {
     let receiver = walk.receiver;
     let unread = walk.unread;

@@ -42,7 +42,7 @@ slice-aggregate-seek-3 c = search needs
 
 seek-requires : tie.Need-seek-requires
 seek-requires c κs =
-    let w = c .before .before .before .start .ensures in
+    let w = c .before .before .before .start .ensures .0 in
     record { able = w .able; lies = record { from = w .lies .from; end = omega (arith, w .lies .end) } }
 
 returns-2 : tie.Need-returns-2

@@ -68,7 +68,7 @@ loop-less c = omega (arith, c .before .before .before .before .before .before .b
 loop-again : tie.Need-loop-again Inv-loop μ-loop
 loop-again c =
     let i = c .before .before .before .before .before .before .before .before .before .before .before .before .before .before .before .loop .inv .1 in
-    (c .before .before .before .before .before .before .before .before .before .before .advance .ensures, (c .before .before .before .before .before .before .before .before .before .block .given ∙ i .0, (c .before .before .before .before .before .before .before .room .given ∙ i .1 .0, c .before .before .before .before .before .out .given ∙ i .1 .1)))
+    (c .before .before .before .before .before .before .before .before .before .before .advance .ensures .0, (c .before .before .before .before .before .before .before .before .before .block .given ∙ i .0, (c .before .before .before .before .before .before .before .room .given ∙ i .1 .0, c .before .before .before .before .before .out .given ∙ i .1 .1)))
 
 same-length-7 : tie.Need-same-length-7 Inv-loop μ-loop
 same-length-7 c = search needs

@@ -1,16 +1,24 @@
--- `index_loop::advance` is safe and ends: it counts down.
+-- `index_loop::advance` meets its contract: each block's records are taken, and reading goes on. It ends: it counts down.
 -- Assumes nothing.
 use mathlib.Core.Path.{_≡_, refl, _∙_}
+use mathlib.Core.Logic.{⊎-elim}
 use native.Mathlib.Omega.{arith}
 use lib.ListN.{length}
 use Rattle.receiver.specs.State.{Able}
-use Rattle.index_loop.specs.Walking.{Lies}
+use Rattle.index_loop.specs.Advancing.{Advances, begun, takes}
+use Rattle.index_loop.specs.Walking.{Lies, blockOf}
+use Rattle.index_loop.proofs.Advances.{goes, more-at, stopped}
 use borrow.Author.Needs.{needs}
 use Rattle.index_loop.proofs.advance.Statement.{statement}
 use Rattle.index_loop.proofs.advance.Tie as tie
 
 abbrev Inv-loop : tie.InvT-loop
-Inv-loop fd task full block₀ room₀ out₀ receiver₀ record₀ at₀ unread₀ left₀ block room out receiver «record» at unread left = Able receiver × (Lies (length block) unread × ((length block ≡ length block₀) × ((length room ≡ length room₀) × (length out ≡ length out₀))))
+Inv-loop fd task full block₀ room₀ out₀ receiver₀ record₀ at₀ unread₀ left₀ block room out receiver «record» at unread left =
+    Able receiver
+    × (Lies (length block) unread
+    × (((length block ≡ length block₀) × ((length room ≡ length room₀) × (length out ≡ length out₀)))
+    × Advances task (record { block = block₀; unread = unread₀; number = record₀; receiver = receiver₀; room = room₀; out = blockOf out₀ at₀ })
+    (record { block = block; unread = unread; number = «record»; receiver = receiver; room = room; out = blockOf out at })))
 
 abbrev μ-loop : tie.MeasureT-loop
 μ-loop fd task full block₀ room₀ out₀ receiver₀ record₀ at₀ unread₀ left₀ block room out receiver «record» at unread left = left
@@ -18,7 +26,7 @@ abbrev μ-loop : tie.MeasureT-loop
 loop-holds : tie.Need-loop-holds Inv-loop μ-loop
 loop-holds c =
     let p = c .before .before .before .before .before .pre in
-    (p .able, (p .lies, (refl, (refl, refl))))
+    (p .able, (p .lies, ((refl, (refl, refl)), begun)))
 
 turns-requires : tie.Need-turns-requires Inv-loop μ-loop
 turns-requires c κs =
@@ -28,34 +36,45 @@ turns-requires c κs =
 go-on-requires : tie.Need-go-on-requires Inv-loop μ-loop
 go-on-requires c κs =
     let i = c .before .before .before .before .before .before .before .before .before .before .before .loop .inv in
-    record { from = c .before .before .before .before .before .before .turns .ensures .end; end = i .1 .0 .end }
+    record { from = c .before .before .before .before .before .before .turns .ensures .0 .end; end = i .1 .0 .end }
 
 enum-told : tie.Need-enum-told Inv-loop μ-loop
 enum-told c = search needs
 
 same-length : tie.Need-same-length Inv-loop μ-loop
-same-length c = c .before .before .before .block .given ∙ c .before .before .before .before .before .before .before .before .before .before .before .before .before .before .before .before .loop .inv .1 .1 .0
+same-length c = c .before .before .before .block .given ∙ c .before .before .before .before .before .before .before .before .before .before .before .before .before .before .before .before .loop .inv .1 .1 .0 .0
 
 same-length-2 : tie.Need-same-length-2 Inv-loop μ-loop
-same-length-2 c = c .before .before .before .before .before .before .before .before .before .before .room .given ∙ c .before .before .before .before .before .before .before .before .before .before .before .before .before .before .before .before .loop .inv .1 .1 .1 .0
+same-length-2 c = c .before .before .before .before .before .before .before .before .before .before .room .given ∙ c .before .before .before .before .before .before .before .before .before .before .before .before .before .before .before .before .loop .inv .1 .1 .0 .1 .0
 
 same-length-3 : tie.Need-same-length-3 Inv-loop μ-loop
-same-length-3 c = c .before .before .before .before .before .before .before .before .out .given ∙ c .before .before .before .before .before .before .before .before .before .before .before .before .before .before .before .before .loop .inv .1 .1 .1 .1
+same-length-3 c = c .before .before .before .before .before .before .before .before .out .given ∙ c .before .before .before .before .before .before .before .before .before .before .before .before .before .before .before .before .loop .inv .1 .1 .0 .1 .1
 
 returns : tie.Need-returns Inv-loop μ-loop
-returns c = record { able = c .before .before .before .before .before .before .before .before .before .before .before .turns .ensures .able; lies = c .before .before .before .before .go-on .ensures }
+returns c =
+    let i = c .before .before .before .before .before .before .before .before .before .before .before .before .before .before .before .before .loop .inv in
+    let t = c .before .before .before .before .before .before .before .before .before .before .before .turns .ensures in
+    let g = c .before .before .before .before .go-on .ensures in
+    let k = c .match .keys2 in
+    let h = stopped _ _ _ _ _ _ _ _ _ _ _ (takes (i .1 .1 .1) (t .1)) (g .1) (λ e. let j = rw e at k in ⊎-elim (λ z. omega (arith, z)) (⊎-elim (λ z. omega (arith, z)) (λ z. omega (arith, z))) j) in
+    (record { able = t .0 .able; lies = g .0 }, record { last = _; taken = h .0; stop = h .1 })
 
 same-length-4 : tie.Need-same-length-4 Inv-loop μ-loop
-same-length-4 c = c .before .before .before .before .before .block .given ∙ c .before .before .before .before .before .before .before .before .before .before .before .before .before .before .before .before .before .before .loop .inv .1 .1 .0
+same-length-4 c = c .before .before .before .before .before .block .given ∙ c .before .before .before .before .before .before .before .before .before .before .before .before .before .before .before .before .before .before .loop .inv .1 .1 .0 .0
 
 same-length-5 : tie.Need-same-length-5 Inv-loop μ-loop
-same-length-5 c = c .before .before .before .before .before .before .before .before .before .before .before .before .room .given ∙ c .before .before .before .before .before .before .before .before .before .before .before .before .before .before .before .before .before .before .loop .inv .1 .1 .1 .0
+same-length-5 c = c .before .before .before .before .before .before .before .before .before .before .before .before .room .given ∙ c .before .before .before .before .before .before .before .before .before .before .before .before .before .before .before .before .before .before .loop .inv .1 .1 .0 .1 .0
 
 same-length-6 : tie.Need-same-length-6 Inv-loop μ-loop
-same-length-6 c = c .before .before .before .before .before .before .before .before .before .before .out .given ∙ c .before .before .before .before .before .before .before .before .before .before .before .before .before .before .before .before .before .before .loop .inv .1 .1 .1 .1
+same-length-6 c = c .before .before .before .before .before .before .before .before .before .before .out .given ∙ c .before .before .before .before .before .before .before .before .before .before .before .before .before .before .before .before .before .before .loop .inv .1 .1 .0 .1 .1
 
 returns-2 : tie.Need-returns-2 Inv-loop μ-loop
-returns-2 c = record { able = c .before .before .before .before .before .before .before .before .before .before .before .before .before .turns .ensures .able; lies = c .before .before .before .before .before .before .go-on .ensures }
+returns-2 c =
+    let i = c .before .before .before .before .before .before .before .before .before .before .before .before .before .before .before .before .before .before .loop .inv in
+    let t = c .before .before .before .before .before .before .before .before .before .before .before .before .before .turns .ensures in
+    let g = c .before .before .before .before .before .before .go-on .ensures in
+    let e = c .before .enum-told .given .1 in
+    (record { able = t .0 .able; lies = g .0 }, record { last = _; taken = goes _ _ _ _ _ _ _ _ _ _ _ (takes (i .1 .1 .1) (t .1)) (g .1) e; stop = more-at _ _ _ e })
 
 sub-left : tie.Need-sub-left Inv-loop μ-loop
 sub-left c = omega (arith, c .before .before .before .before .before .before .before .before .before .before .before .before .before .before .before .before .before .loop-test .taken)
@@ -65,8 +84,11 @@ loop-less c = omega (arith, c .before .before .before .before .before .before .b
 
 loop-again : tie.Need-loop-again Inv-loop μ-loop
 loop-again c =
-    let i = c .before .before .before .before .before .before .before .before .before .before .before .before .before .before .before .before .before .before .loop .inv .1 .1 in
-    (c .before .before .before .before .before .before .before .before .before .before .before .before .before .turns .ensures .able, (c .before .before .before .before .before .before .go-on .ensures, (c .before .before .before .before .before .block .given ∙ i .0, (c .before .before .before .before .before .before .before .before .before .before .before .before .room .given ∙ i .1 .0, c .before .before .before .before .before .before .before .before .before .before .out .given ∙ i .1 .1))))
+    let i = c .before .before .before .before .before .before .before .before .before .before .before .before .before .before .before .before .before .before .loop .inv in
+    let n = i .1 .1 .0 in
+    let t = c .before .before .before .before .before .before .before .before .before .before .before .before .before .turns .ensures in
+    let g = c .before .before .before .before .before .before .go-on .ensures in
+    (t .0 .able, (g .0, ((c .before .before .before .before .before .block .given ∙ n .0, (c .before .before .before .before .before .before .before .before .before .before .before .before .room .given ∙ n .1 .0, c .before .before .before .before .before .before .before .before .before .before .out .given ∙ n .1 .1)), goes _ _ _ _ _ _ _ _ _ _ _ (takes (i .1 .1 .1) (t .1)) (g .1) (c .before .enum-told .given .1))))
 
 same-length-7 : tie.Need-same-length-7 Inv-loop μ-loop
 same-length-7 c = search needs
@@ -78,7 +100,9 @@ same-length-9 : tie.Need-same-length-9 Inv-loop μ-loop
 same-length-9 c = search needs
 
 returns-3 : tie.Need-returns-3 Inv-loop μ-loop
-returns-3 c = record { able = c .before .loop .inv .0; lies = c .before .loop .inv .1 .0 }
+returns-3 c =
+    let i = c .before .loop .inv in
+    (record { able = i .0; lies = i .1 .0 }, record { last = _; taken = i .1 .1 .1; stop = refl })
 
 pub advance-spec : {M : Type 1} → statement M
 advance-spec =

@@ -63,7 +63,7 @@ slice-aggregate-onward-3 c = search needs
 
 onward-requires : tie.Need-onward-requires
 onward-requires c κs =
-    let w = c .before .before .before .start .ensures in
+    let w = c .before .before .before .start .ensures .0 in
     record { able = w .able; lies = record { from = w .lies .from; end = omega (arith, w .lies .end) } }
 
 returns-3 : tie.Need-returns-3

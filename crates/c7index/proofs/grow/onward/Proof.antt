@@ -63,7 +63,7 @@ enum-told : tie.Need-enum-told Inv-loop μ-loop
 enum-told c = search needs
 
 close-requires : tie.Need-close-requires Inv-loop μ-loop
-close-requires c κs = c .before .before .before .before .before .before .before .before .before .before .before .before .before .advance .ensures .able
+close-requires c κs = c .before .before .before .before .before .before .before .before .before .before .before .before .before .advance .ensures .0 .able
 
 same-length-4 : tie.Need-same-length-4 Inv-loop μ-loop
 same-length-4 c = c .before .before .before .before .before .before .before .before .before .before .before .before .before .block .given ∙ c .before .before .before .before .before .before .before .before .before .before .before .before .before .before .before .before .before .before .before .loop .inv .1 .0
@@ -81,7 +81,7 @@ show-requires : tie.Need-show-requires Inv-loop μ-loop
 show-requires c κs = search needs
 
 emptied-requires : tie.Need-emptied-requires Inv-loop μ-loop
-emptied-requires c κs = c .before .before .before .before .before .before .before .before .before .before .before .before .before .before .before .before .advance .ensures .able
+emptied-requires c κs = c .before .before .before .before .before .before .before .before .before .before .before .before .before .before .before .before .advance .ensures .0 .able
 
 sub-left : tie.Need-sub-left Inv-loop μ-loop
 sub-left c = omega (arith, c .before .before .before .before .before .before .before .before .before .before .before .before .before .before .before .before .before .before .before .before .before .loop-test .taken)
@@ -91,9 +91,9 @@ loop-less c = omega (arith, c .before .before .before .before .before .before .b
 
 loop-again : tie.Need-loop-again Inv-loop μ-loop
 loop-again c =
-    let e = c .emptied .ensures in
+    let e = c .emptied .ensures .0 in
     let i = c .before .before .before .before .before .before .before .before .before .before .before .before .before .before .before .before .before .before .before .before .before .before .loop .inv .1 in
-    (record { able = e .1; lies = subst⁻¹ (Lies _) (e .0) (c .before .before .before .before .before .before .before .before .before .before .before .before .before .before .before .before .before .advance .ensures .lies) }, (c .before .before .before .before .before .before .before .before .before .before .before .before .before .before .before .before .block .given ∙ i .0, (c .before .before .before .before .before .before .before .before .before .before .before .before .before .before .room .given ∙ i .1 .0, c .before .before .before .before .before .before .before .before .before .before .before .before .out .given ∙ i .1 .1)))
+    (record { able = e .1; lies = subst⁻¹ (Lies _) (e .0) (c .before .before .before .before .before .before .before .before .before .before .before .before .before .before .before .before .before .advance .ensures .0 .lies) }, (c .before .before .before .before .before .before .before .before .before .before .before .before .before .before .before .before .block .given ∙ i .0, (c .before .before .before .before .before .before .before .before .before .before .before .before .before .before .room .given ∙ i .1 .0, c .before .before .before .before .before .before .before .before .before .before .before .before .out .given ∙ i .1 .1)))
 
 same-length-7 : tie.Need-same-length-7 Inv-loop μ-loop
 same-length-7 c = search needs

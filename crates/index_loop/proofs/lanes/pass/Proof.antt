@@ -1,9 +1,11 @@
--- `index_loop::lanes::pass` meets its contract: a TP whose header says its flag and offset is of the receiver's length.
+-- `index_loop::lanes::pass` meets its contract: a TP whose header says its flag and offset is of the receiver's length, and its first call is
+-- the payload's.
 -- Assumes nothing.
-use mathlib.Core.Path.{sym, subst, _∙_}
+use mathlib.Core.Path.{refl, sym, subst, _∙_}
 use native.Mathlib.Omega.{arith}
 use Rattle.receiver.specs.Lanes.{Tidy}
-use Rattle.index_loop.proofs.Passing.{says, says-leaves}
+use Rattle.index_loop.proofs.Leading.{dropped-left, says-left}
+use Rattle.index_loop.proofs.Passing.{says, says-lends, says-leaves}
 use borrow.Author.Needs.{needs}
 use Rattle.index_loop.proofs.lanes.pass.Statement.{statement}
 use Rattle.index_loop.proofs.lanes.pass.Tie as tie
@@ -28,10 +30,13 @@ payload-requires c κs =
     (subst (λ n. Tidy n (a .lane)) (sym (p .1 .0)) (p .1 .1), (omega (arith, w .0, p .0 .size), w .1))
 
 returns : tie.Need-returns
-returns c = omega arith
+returns c = (omega arith, λ k. (refl, refl))
 
 returns-2 : tie.Need-returns-2
-returns-2 c = omega arith
+returns-2 c =
+    let a = c .before .before .before .before .before .before .args in
+    let p = c .before .before .before .before .before .before .pre in
+    (omega arith, dropped-left (a .covered) (a .stamp) (a .lane) (a .base) (a .tp .now) (a .room .now) (a .out .now) (a .at) (p .0 .size) (p .1 .0) (p .1 .1) _ (sym (c .before .before .top .ensures) ∙ c .enum-told2 .given .1))
 
 same-length : tie.Need-same-length
 same-length c = search needs
@@ -40,7 +45,12 @@ same-length-2 : tie.Need-same-length-2
 same-length-2 c = search needs
 
 returns-3 : tie.Need-returns-3
-returns-3 c = let a = c .before .before .before .before .before .before .before .before .before .before .before .before .before .before .args in let p = c .before .before .before .before .before .before .before .before .before .before .before .before .before .before .pre in says-leaves (a .base) (a .tp .now) (a .room .now) _ _ (c .before .before .before .before .payload .result .left) (p .0) (p .1 .0) (sym (c .before .before .before .before .before .before .before .before .before .before .top .ensures) ∙ c .before .before .before .before .before .before .before .before .low .given .1) (c .before .before .before .before .payload .ensures)
+returns-3 c =
+    let a = c .before .before .before .before .before .before .before .before .before .before .before .before .before .before .args in
+    let p = c .before .before .before .before .before .before .before .before .before .before .before .before .before .before .pre in
+    let e = sym (c .before .before .before .before .before .before .before .before .before .before .top .ensures) ∙ c .before .before .before .before .before .before .before .before .low .given .1 in
+    let r = c .before .before .before .before .payload in
+    (says-leaves (a .base) (a .tp .now) (a .room .now) _ _ (r .result .left) (p .0) (p .1 .0) e (r .ensures .0), says-left (a .covered) (a .stamp) (a .lane) (a .base) (a .tp .now) (a .room .now) (a .out .now) (a .at) (p .0 .size) (p .1 .0) (p .1 .1) _ _ (r .result .left) _ _ (r .result .at) e (says-lends (a .base) (a .tp .now) (a .room .now) _ _ (p .0) (p .1 .0) e) (r .ensures .1))
 
 pub pass-spec : {M : Type 1} → statement M
 pass-spec =

@@ -10,7 +10,7 @@ in-lane-requires : tie.Need-in-lane-requires
 in-lane-requires c κs = search needs
 
 returns : tie.Need-returns
-returns c = (subst Able (sym (c .in-lane .ensures)) (c .before .pre .1), refl)
+returns c = record { able = subst Able (sym (c .in-lane .ensures)) (c .before .pre .1); receiver = c .in-lane .ensures; number = refl; at = refl; from = refl }
 
 pub run-of-spec : {M : Type 1} → statement M
 run-of-spec = tie.close (tie.spec in-lane-requires returns)
