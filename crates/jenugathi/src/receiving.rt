@@ -3,7 +3,8 @@ ghost use mathlib.Core.Path.{_≡_};
 ghost use mathlib.Core.Bool.{true};
 ghost use lib.ListN.{length};
 ghost use Rattle.receiver.specs.Call.{findNumber, openingOf};
-ghost use Rattle.receiver.specs.Words.{fitb, ofWords};
+ghost use Rattle.receiver.specs.InSeries.{SeriesAs};
+ghost use Rattle.receiver.specs.Words.{fitb, ofWords, receiverIn};
 ghost use Rattle.jenugathi.specs.Receiving.{sevenOf, findWords, orZero, openedTo, gappedTo, NextAs};
 use receiver::About;
 use receiver::Find;
@@ -92,7 +93,10 @@ pub extern "C" fn c7_receiver_gap(w: &mut [u64; 23]) -> u32
 }
 
 // The next find of the TP of words that fit, on the words; or the same call, from further on.
-fn quick(w: &mut [u64; 23], tp: &[u8], room: &mut [u8]) -> Swift {
+fn quick(w: &mut [u64; 23], tp: &[u8], room: &mut [u8]) -> Swift
+    requires { ⌜ fitb (now w) ≡ true ⌝ }
+    ensures { λ q. ⌜ SeriesAs q (receiverIn (now (w .entry))) (now (tp .entry)) (now (room .entry)) (now (w .exit)) (now (room .exit)) ⌝ }
+{
     match receiver::swift::next(w, tp, room) {
         Swift::Gives { find: f, about: a } => Swift::Gives { find: f, about: a },
         Swift::Other => receiver::series::next(w, tp, room),
