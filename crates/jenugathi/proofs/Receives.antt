@@ -14,11 +14,12 @@ use Rattle.receiver.specs.declared.Receiver.{Receiver}
 use Rattle.receiver.specs.declared.Step.{Step}
 use Rattle.receiver.specs.declared.swift.Swift.{Swift}
 use Rattle.receiver.specs.declared.swift.Swift.the-variants as S
-use Rattle.receiver.specs.Call.{Answered, Gives, OpenedAs, answeredOf, callOf, findNumber, freshOf, gapOf, openingOf, outside}
+use Rattle.receiver.specs.Call.{Answered, Gave, Gives, OpenedAs, answeredOf, callOf, findNumber, freshOf, gapOf, openingOf, outside}
 use Rattle.receiver.specs.Place.{ownOf, startOf}
 use Rattle.receiver.specs.State.{Able}
 use Rattle.receiver.specs.Words.{Bytes, Fit, FitIf, fitb, ofWords, receiverIn, wordsOf}
-use Rattle.receiver.specs.InSwift.{Done, SwiftAs}
+use Rattle.receiver.specs.InSeries.{SeriesAs}
+use Rattle.receiver.specs.InSwift.{Done}
 use Rattle.receiver.proofs.Worded.{accepted, opens-still, refused}
 use Rattle.jenugathi.specs.Receiving.{NextAs, findWords, gappedTo, openedTo, orZero}
 
@@ -92,25 +93,24 @@ module _ (w tp m₀ : List ℕ) where
   unfit t f a b d = stays w O.Refused (refused w t a b .0) tp m₀ f refl d
 
   module _ (fit : fitb w ≡ true) where
-    pub swiftly : (x : Swift) (v m f : List ℕ) (n : ℕ) (g : Find) (c : About) → SwiftAs x (receiverIn w) w tp m₀ v m → x ≡ S.Gives g c → f ≡ findWords g c → n ≡ orZero (findNumber g)
+    pub swiftly : (x : Swift) (v m f : List ℕ) (n : ℕ) (g : Find) (c : About) → SeriesAs x (receiverIn w) tp m₀ v m → x ≡ S.Gives g c → f ≡ findWords g c → n ≡ orZero (findNumber g)
         → NextAs (ofWords w) w tp m₀ n v f m
     swiftly x v m f n g c s e d k =
-        let y : Done (receiverIn w) tp m₀ g c v m = subst (λ (z : Swift). SwiftAs z (receiverIn w) w tp m₀ v m) e s in
+        let y : Done (receiverIn w) tp m₀ g c v m = subst (λ (z : Swift). SeriesAs z (receiverIn w) tp m₀ v m) e s in
         let z = accepted w true (receiverIn w) (sym fit) refl refl in
         tells w (O.Ready (receiverIn w)) (z .0) tp m₀ (receiverIn w) (y .step) n v f m refl (z .1) (y .gives) (y .state, y .bytes)
         (d ∙ ap (λ (h : Find). findWords h c) (y .find) ∙ ap (λ (h : About). findWords (y .step .find) h) (y .about)) (k ∙ ap (λ (h : Find). orZero (findNumber h)) (y .find))
 
-    pub by-value : (x : Swift) (u m₁ v m f : List ℕ) (n : ℕ) (r : Receiver) (q : Step) → SwiftAs x (receiverIn w) w tp m₀ u m₁ → x ≡ S.Other → r ≡ receiverIn u → Gives (callOf r tp m₁) q tp m
+    -- what is left to a call by value
+    left-over : (x : Swift) (u m₁ : List ℕ) → SeriesAs x (receiverIn w) tp m₀ u m₁ → x ≡ S.Other → SeriesAs S.Other (receiverIn w) tp m₀ u m₁
+    left-over x u m₁ s e = subst (λ (z : Swift). SeriesAs z (receiverIn w) tp m₀ u m₁) e s
+
+    pub by-value : (x : Swift) (u m₁ v m f : List ℕ) (n : ℕ) (r : Receiver) (q : Step) → SeriesAs x (receiverIn w) tp m₀ u m₁ → x ≡ S.Other → r ≡ receiverIn u → Gives (callOf r tp m₁) q tp m
         → (v ≡ wordsOf (q .receiver)) × Bytes (q .receiver) → f ≡ findWords (q .find) (q .about) → n ≡ orZero (findNumber (q .find)) → NextAs (ofWords w) w tp m₀ n v f m
     by-value x u m₁ v m f n r q s e c g h d k =
-        let y : (u ≡ w) × (m₁ ≡ m₀) = subst (λ (z : Swift). SwiftAs z (receiverIn w) w tp m₀ u m₁) e s in
         let z = accepted w true (receiverIn w) (sym fit) refl refl in
-        let i : r ≡ receiverIn w = c ∙ ap receiverIn (y .0) in
-        tells w (O.Ready (receiverIn w)) (z .0) tp m₀ (receiverIn w) q n v f m refl (z .1) (rw (i, y .1) at g) h d k
+        let i : callOf r tp m₁ ≡ callOf (receiverIn w) tp m₀ = ap (λ (y : Receiver). callOf y tp m₁) c ∙ left-over x u m₁ s e .2 in
+        tells w (O.Ready (receiverIn w)) (z .0) tp m₀ (receiverIn w) q n v f m refl (z .1) (subst (λ (y : Gave). Gives y q tp m) i g) h d k
 
-    pub able-still : (x : Swift) (u m₁ : List ℕ) (r : Receiver) → SwiftAs x (receiverIn w) w tp m₀ u m₁ → x ≡ S.Other → r ≡ receiverIn u → Able r
-    able-still x u m₁ r s e c =
-        let y : (u ≡ w) × (m₁ ≡ m₀) = subst (λ (z : Swift). SwiftAs z (receiverIn w) w tp m₀ u m₁) e s in
-        let z = accepted w true (receiverIn w) (sym fit) refl refl in
-        let i : r ≡ receiverIn w = c ∙ ap receiverIn (y .0) in
-        subst Able (sym i) (z .1 .able)
+    pub able-still : (x : Swift) (u m₁ : List ℕ) (r : Receiver) → SeriesAs x (receiverIn w) tp m₀ u m₁ → x ≡ S.Other → r ≡ receiverIn u → Able r
+    able-still x u m₁ r s e c = subst Able (sym c) (accepted u true (receiverIn u) (sym (left-over x u m₁ s e .0)) refl refl .1 .able)

@@ -8,7 +8,7 @@ ghost use Rattle.jenugathi.specs.Receiving.{sevenOf, findWords, orZero, 
 use receiver::About;
 use receiver::Find;
 use receiver::Opened;
-use receiver::swift::Swift;
+use receiver::words::Swift;
 
 // A find's words: sort, content or number, start and length, and what it carries.
 fn seven(sort: u64, what: u8, start: usize, len: usize, a: About) -> [u64; 7]
@@ -91,20 +91,12 @@ pub extern "C" fn c7_receiver_gap(w: &mut [u64; 23]) -> u32
     }
 }
 
-// The next find of the TP of words that fit, on the words; or the same call, from further on.
-fn quick(w: &mut [u64; 23], tp: &[u8], room: &mut [u8]) -> Swift {
-    match receiver::swift::next(w, tp, room) {
-        Swift::Gives { find: f, about: a } => Swift::Gives { find: f, about: a },
-        Swift::Other => receiver::series::next(w, tp, room),
-    }
-}
-
 // The next find of the TP of words that fit: on the words, or by value where something is to be judged.
 fn call(w: &mut [u64; 23], tp: &[u8], room: &mut [u8], find: &mut [u64; 7]) -> u32
     requires { ⌜ fitb (now w) ≡ true ⌝ }
     ensures { λ n. ⌜ NextAs (ofWords (now (w .entry))) (now (w .entry)) (now (tp .entry)) (now (room .entry)) n (now (w .exit)) (now (find .exit)) (now (room .exit)) ⌝ }
 {
-    match quick(w, tp, room) {
+    match receiver::words::next(w, tp, room) {
         Swift::Gives { find: f, about: a } => {
             *find = find_words(f, a);
             number_of(f)

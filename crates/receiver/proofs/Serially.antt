@@ -17,6 +17,8 @@ use Rattle.wire.specs.declared.Read.{Read}
 use Rattle.wire.specs.declared.Read.the-variants.{Whole}
 use Rattle.wire.specs.declared.Sort.{Sort}
 use Rattle.wire.specs.declared.Sort.the-variants as S
+use Rattle.receiver.specs.declared.About.{About}
+use Rattle.receiver.specs.declared.Find.{Find}
 use Rattle.receiver.specs.declared.Find.the-variants as F
 use Rattle.receiver.specs.declared.Place.{Place}
 use Rattle.receiver.specs.declared.Receiver.{Receiver}
@@ -45,7 +47,7 @@ use Rattle.receiver.specs.InSeries.{Chained, ChainAs, CourseAs, FirstAt,
 use Rattle.receiver.specs.InStages.{Leads}
 use Rattle.receiver.specs.InStride.{Joins, Skips, between}
 use Rattle.receiver.specs.InSwift as I
-use Rattle.receiver.specs.InSwift.{Busy, Done, Lent, betweenAt, madeOf}
+use Rattle.receiver.specs.InSwift.{Busy, Done, Lent, SwiftAs, betweenAt, madeOf}
 use Rattle.receiver.specs.InWalk.{Carries, Ends, On, shown}
 use Rattle.receiver.specs.Join.{Finding, low, notice, ordinary}
 use Rattle.receiver.specs.Kind.{kindBy, kindOf, pieceOf}
@@ -429,3 +431,19 @@ module _ (ws tp m₀ : List ℕ) (f : fitb ws ≡ true) where
           let z : 0 < left = omega (arith, a) in
           let u = x .cut z in
           subst (λ (z : Course). CourseAs z (ownOf count) (d .start) tp m₀ m c e p) (sym (u .0)) (subst (λ (n : List ℕ). Ends (length m₀) (ownOf count) (d .start) tp m₀ (cutAt (ownOf count) tp h from left c e p len) n) (sym (u .1)) (d .cut z))
+
+  -- ---- at once, or in a series
+  module _ (x : Swift) (u m₁ : List ℕ) (s : SwiftAs x (receiverIn ws) ws tp m₀ u m₁) where
+    pub at-once : (g : Find) (a : About) → x ≡ G.Gives g a → SeriesAs (G.Gives g a) (receiverIn ws) tp m₀ u m₁
+    at-once g a e = subst (λ (z : Swift). SwiftAs z (receiverIn ws) ws tp m₀ u m₁) e s
+
+    untouched : x ≡ G.Other → (u ≡ ws) × (m₁ ≡ m₀)
+    untouched e = subst (λ (z : Swift). SwiftAs z (receiverIn ws) ws tp m₀ u m₁) e s
+
+    pub still-fit : x ≡ G.Other → fitb u ≡ true
+    still-fit e = ap fitb (untouched e .0) ∙ f
+
+    pub in-series : x ≡ G.Other → (q : Swift) (v m : List ℕ) → SeriesAs q (receiverIn u) tp m₁ v m → SeriesAs q (receiverIn ws) tp m₀ v m
+    in-series e q v m d =
+        let y = untouched e in
+        subst (λ (n : List ℕ). SeriesAs q (receiverIn ws) tp n v m) (y .1) (subst (λ (z : List ℕ). SeriesAs q (receiverIn z) tp m₁ v m) (y .0) d)

@@ -14,11 +14,11 @@ mod low;
 mod outset;
 pub mod over;
 mod pieces;
-pub mod series;
+mod series;
 mod stages;
 mod stamps;
 mod stride;
-pub mod swift;
+mod swift;
 mod walk;
 pub mod words;
 

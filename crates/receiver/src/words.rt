@@ -1,14 +1,18 @@
 // A receiver as words that anyone may keep, and back: words of none that can be called, or outside an opening's limits, are refused.
 ghost use mathlib.Core.Path.{_≡_};
-ghost use mathlib.Core.Bool.{_&&_, _||_};
+ghost use mathlib.Core.Bool.{true, _&&_, _||_};
 ghost use lib.Dec.{leb, ltb, eqb};
 ghost use Prim.Native.Nat.{_+_, _%_, _<_};
 ghost use Rattle.receiver.specs.Words.{stageWords, headerWords, headWords, phaseWords, keptWords, wordsOf, stageIn, headerFrom, phaseIn, placeIn, keptIn, receiverIn, openedb, begunb, stagedb, roomyb, below, phasedb, leftIn, fitb, ofWords, HeaderBytes, PhaseBytes, KeptBytes, Bytes, FitIf};
+ghost use Rattle.receiver.specs.InSeries.{SeriesAs};
 use crate::Opened;
 use crate::Place;
 use crate::Receiver;
 use crate::Stage;
 use crate::Stamp;
+use crate::series;
+use crate::swift;
+pub use crate::swift::Swift;
 use crate::walk::Kept;
 use crate::walk::Phase;
 use crate::walk::Walk;
@@ -364,4 +368,15 @@ pub fn of_words(w: &[u64; 23]) -> Opened
         return Opened::Ready(receiver_in(w));
     }
     Opened::Refused
+}
+
+// The next find of the TP of words that fit; or the same call, from further on, is left to `receiver::next`.
+pub fn next(w: &mut [u64; 23], tp: &[u8], room: &mut [u8]) -> Swift
+    requires { ⌜ fitb (now w) ≡ true ⌝ }
+    ensures { λ q. ⌜ SeriesAs q (receiverIn (now (w .entry))) (now (tp .entry)) (now (room .entry)) (now (w .exit)) (now (room .exit)) ⌝ }
+{
+    match swift::next(w, tp, room) {
+        Swift::Gives { find, about } => Swift::Gives { find, about },
+        Swift::Other => series::next(w, tp, room),
+    }
 }
