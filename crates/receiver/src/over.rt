@@ -1,7 +1,11 @@
-// A TP that is passed over: out of step, and no EP begins in it.
+// A TP that one call is done with. It is passed over: out of step, if no EP begins in it; between two EPs, if fill takes all of it. Or all of
+// it is data of the EP under way.
 ghost use mathlib.Core.Path.{_≡_};
+ghost use Prim.Native.Nat.{_-_, _≤_};
+ghost use lib.ListN.{length};
 ghost use Rattle.receiver.specs.State.{Able};
-ghost use Rattle.receiver.specs.Over.{OverIf, overOf};
+ghost use Rattle.receiver.specs.Over.{OverIf, overOf, DataIf, InData, takenOf, putOf};
+ghost use Rattle.receiver.specs.InOver.{sixOf, FillIf, StartlessIf, VoidIf};
 use crate::Receiver;
 use crate::Stage;
 use crate::entry;
@@ -11,7 +15,10 @@ use crate::walk::Phase;
 use crate::walk::Walk;
 
 // Six bytes behind a TP's first one as a number, least significant first: all of them are 0 if it is. The compiler reads them at once.
-fn six(tp: &[u8]) -> u64 {
+fn six(tp: &[u8]) -> u64
+    requires { ⌜ 7 ≤ length (now tp) ⌝ }
+    ensures { λ q. ⌜ q ≡ sixOf (now (tp .entry)) ⌝ }
+{
     let mut n = tp[6] as u64;
     n = tp[5] as u64 + 256 * n;
     n = tp[4] as u64 + 256 * n;
@@ -21,7 +28,10 @@ fn six(tp: &[u8]) -> u64 {
 }
 
 // Between two EPs, a TP in which an EP of content 0 begins at once: whether its intact header says that it takes all of the TP.
-fn is_fill(phase: Phase, tp: &[u8]) -> bool {
+fn is_fill(phase: Phase, tp: &[u8]) -> bool
+    requires { ⌜ 10 ≤ length (now tp) ⌝ }
+    ensures { λ q. ⌜ FillIf q phase (now (tp .entry)) ⌝ }
+{
     let Phase::Head { have, word: _ } = phase else {
         return false;
     };
@@ -35,14 +45,20 @@ fn is_fill(phase: Phase, tp: &[u8]) -> bool {
 }
 
 // Out of step, whether no EP begins in a TP without low-latency part.
-fn is_startless(phase: Phase, tp: &[u8]) -> bool {
+fn is_startless(phase: Phase, tp: &[u8]) -> bool
+    requires { ⌜ 4 ≤ length (now tp) ⌝ }
+    ensures { λ q. ⌜ StartlessIf q phase (now (tp .entry)) ⌝ }
+{
     let Phase::Lost = phase else {
         return false;
     };
     wire::says_no_start(entry::tp_word(tp))
 }
 
-fn is_void(phase: Phase, tp: &[u8]) -> bool {
+fn is_void(phase: Phase, tp: &[u8]) -> bool
+    requires { ⌜ 10 ≤ length (now tp) ⌝ }
+    ensures { λ q. ⌜ VoidIf q phase (now (tp .entry)) ⌝ }
+{
     if six(tp) == 0 {
         return is_fill(phase, tp);
     }
@@ -110,6 +126,7 @@ pub fn behind(r: Receiver) -> Receiver
 // says none.
 pub fn is_data(r: Receiver, tp: &[u8], room: usize) -> bool
     requires { ⌜ Able r ⌝ }
+    ensures { λ q. ⌜ DataIf q r (now (tp .entry)) room ⌝ }
 {
     if tp.len() < 10 {
         return false;
@@ -153,7 +170,11 @@ pub fn is_data(r: Receiver, tp: &[u8], room: usize) -> bool
 }
 
 // The receiver behind such a TP, whose data go to the room.
-pub fn taken(r: Receiver, tp: &[u8], room: &mut [u8]) -> Receiver {
+pub fn taken(r: Receiver, tp: &[u8], room: &mut [u8]) -> Receiver
+    requires { ⌜ Able r × (length (now room) ≡ r .limit) × InData r (length (now tp)) ⌝ }
+    ensures { λ q. ⌜ q ≡ takenOf r (length (now (tp .entry)) - 4) ⌝ }
+    ensures { λ _. ⌜ now (room .exit) ≡ putOf r (now (tp .entry)) (now (room .entry)) ⌝ }
+{
     let w = r.walk;
     let phase = w.phase;
     let kept = w.kept;
@@ -170,13 +191,7 @@ pub fn taken(r: Receiver, tp: &[u8], room: &mut [u8]) -> Receiver {
     else {
         return r;
     };
-    if tp.len() < 4 {
-        return r;
-    }
     let n = tp.len() - 4;
-    if left < n {
-        return r;
-    }
     queue::copy_at(room, len, &tp[4..]);
     let phase = Phase::Body {
         header,
