@@ -1,15 +1,49 @@
--- `list_loop::turn` meets its contract: a TP's finds, or a gap told.
+-- `list_loop::turn` meets its contract: a TP passed over, a TP's finds, or a gap told.
 -- Assumes nothing.
 use mathlib.Core.Path.{refl}
 use mathlib.Core.Logic.{⊎-elim}
 use native.Mathlib.Omega.{arith}
-use Rattle.list_loop.proofs.Lists.{does-found, does-told}
+use Rattle.list_loop.proofs.Lists.{able-over, does-found, does-told, found-over}
 use borrow.Author.Needs.{needs}
 use Rattle.list_loop.proofs.turn.Statement.{statement}
 use Rattle.list_loop.proofs.turn.Tie as tie
 
 enum-told : tie.Need-enum-told
 enum-told c = search needs
+
+is-over-requires : tie.Need-is-over-requires
+is-over-requires c κs = search needs
+
+behind-requires : tie.Need-behind-requires
+behind-requires c κs = search needs
+
+add-t11 : tie.Need-add-t11
+add-t11 c = search needs
+
+add-t12 : tie.Need-add-t12
+add-t12 c = search needs
+
+add-t14 : tie.Need-add-t14
+add-t14 c = search needs
+
+returns : tie.Need-returns
+returns c =
+    let s = c .before .before .before .before .before .before .before .before .before .before .before .before in
+    let a = s .args in
+    let o = c .before .before .before .before .is-over .ensures in
+    let yes = c .before .before .before .if1 .taken in
+    let b = c .before .before .behind .ensures in (
+      record {
+        able = able-over (a .«data» .now) (a .run) (a .room .now) (a .out .now) _ o yes _ b;
+        ten = s .pre .ten;
+        held = omega arith;
+        from = omega arith;
+        end = omega arith;
+        count = omega arith;
+        progress = omega arith;
+      },
+      does-found _ _ _ _ _ _ _ _ _ (c .before .before .before .before .before .enum-told .given .1) (found-over (a .«data» .now) (a .run) (a .room .now) (a .out .now) _ o yes _ b refl refl refl),
+    )
 
 finds-requires : tie.Need-finds-requires
 finds-requires c κs = search needs
@@ -20,23 +54,23 @@ same-length c = search needs
 same-length-2 : tie.Need-same-length-2
 same-length-2 c = search needs
 
-returns : tie.Need-returns
-returns c =
+returns-2 : tie.Need-returns-2
+returns-2 c =
     let f = c .before .before .before .before .finds .ensures in
-    (f .0, does-found _ _ _ _ _ _ _ _ _ (c .before .before .before .before .before .before .before .enum-told .given .1) (f .1))
+    (f .0, does-found _ _ _ _ _ _ _ _ _ (c .before .before .before .before .before .before .before .before .before .enum-told .given .1) (f .1))
 
 gap-requires : tie.Need-gap-requires
 gap-requires c κs = search needs
 
-add-t13 : tie.Need-add-t13
-add-t13 c = search needs
+add-t20 : tie.Need-add-t20
+add-t20 c = search needs
 
-returns-2 : tie.Need-returns-2
-returns-2 c =
+returns-3 : tie.Need-returns-3
+returns-3 c =
     let s = c .before .before .before .before .before .before .before .before in
     let a = s .args in
     let g = c .before .gap .ensures in
-    let k = c .before .before .before .before .match .keys2 in (
+    let k = c .before .before .match .keys2 in (
       record {
         able = g .1;
         ten = s .pre .ten;
@@ -56,10 +90,16 @@ turn-spec =
     tie.close
     (tie.spec
     enum-told
+    is-over-requires
+    behind-requires
+    add-t11
+    add-t12
+    add-t14
+    returns
     finds-requires
     same-length
     same-length-2
-    returns
+    returns-2
     gap-requires
-    add-t13
-    returns-2)
+    add-t20
+    returns-3)
