@@ -1,5 +1,5 @@
 -- One find more, and one record more: from what a call or a record's turn ensures to what the loops promise. Assumes nothing.
-use Prim.Native.Nat.{ℕ, _+_}
+use Prim.Native.Nat.{ℕ, _+_, _-_}
 use mathlib.Core.Path.{_≡_, refl, ap, sym, subst, subst⁻¹, _∙_}
 use mathlib.Core.Bool.{Bool, true, false}
 use mathlib.Core.Logic.{inl, inr, ⊎-elim}
@@ -16,10 +16,11 @@ use Rattle.listing.specs.Hearing.{Hears, nothing, then, Ends, last}
 use Rattle.listing.specs.Lines.{lineOf}
 use Rattle.receiver.specs.Call.{Gives, callOf, gapOf, lasts}
 use Rattle.receiver.specs.Lanes.{endsIn}
-use Rattle.receiver.specs.Over.{OverIf, overOf}
+use Rattle.receiver.specs.Over.{DataIf, InData, OverIf, overOf, putOf, takenOf}
 use Rattle.receiver.specs.Place.{countOf, ownOf}
 use Rattle.receiver.specs.State.{Able}
 use Rattle.receiver.specs.declared.Receiver.{Receiver}
+use Rattle.receiver.specs.declared.Stamp.{Stamp}
 use Rattle.receiver.specs.declared.Step.{Step}
 use Rattle.list_loop.specs.Running.{Found, Told, Does, Standing, standing, Lists, hears, ends, gap, Listed}
 use Rattle.list_loop.specs.Running as L
@@ -57,19 +58,34 @@ module _ (tp : List ℕ) (first : Run) (m out : List ℕ) (r : Receiver) (at : �
         heard = inr (subst⁻¹ (λ (x : Receiver). Ends tp (first .done + 1) (first .receiver) m (h .lines ++ lineOf (first .done + 1) (q .find)) x m₂) er (last (h .hears) g off), (ef, ed));
       }
 
--- a TP that is passed over is done, and has given no line
-module _ (tp : List ℕ) (first : Run) (m out : List ℕ) (over : Bool) (o : OverIf over (first .receiver) tp (length m)) (yes : over ≡ true) where
-  none : Gives (callOf (first .receiver) tp m) (endsIn (overOf (first .receiver)) (ownOf (countOf (first .receiver .count)))) tp m
-  none = subst (λ (x : Bool). OverIf x (first .receiver) tp (length m)) yes o .1 m refl
+-- a TP that one call is done with has given no line
+module _ (tp : List ℕ) (first : Run) (m out : List ℕ) (q : Receiver) (t : Stamp) (m′ : List ℕ) (g : Gives (callOf (first .receiver) tp m) (endsIn q t) tp m′) where
+  pub able-ended : (r : Receiver) → r ≡ q → Able r
+  able-ended r e = subst⁻¹ Able e (g .able)
 
-  pub able-over : (r : Receiver) → r ≡ overOf (first .receiver) → Able r
-  able-over r e = subst⁻¹ Able e (none .able)
+  pub found-ended : (z : Run) (m₁ : List ℕ) → z .receiver ≡ q → m₁ ≡ m′ → z .at ≡ first .at → z .from ≡ first .from + 8 + length tp → z .done ≡ first .done + 1
+      → Found tp first m out z m₁ out
+  found-ended z m₁ er em ea ef ed =
+      subst⁻¹ (λ (x : List ℕ). Found tp first m out z x out) em
+      (found-done tp first m out (first .receiver) (first .at) m out (heard-none tp first m out) (endsIn q t) (first .at) m′ out g (sym (append-nil (take (first .at) out))) z refl er ea ef ed)
 
-  pub found-over : (z : Run) → z .receiver ≡ overOf (first .receiver) → z .at ≡ first .at → z .from ≡ first .from + 8 + length tp → z .done ≡ first .done + 1
-      → Found tp first m out z m out
-  found-over z er ea ef ed =
-      found-done tp first m out (first .receiver) (first .at) m out (heard-none tp first m out)
-      (endsIn (overOf (first .receiver)) (ownOf (countOf (first .receiver .count)))) (first .at) m out none (sym (append-nil (take (first .at) out))) z refl er ea ef ed
+-- it is passed over, or all of it is data
+module _ (r : Receiver) (tp : List ℕ) (told : Bool) where
+  pub over-gives : (m : List ℕ) → OverIf told r tp (length m) → told ≡ true → Gives (callOf r tp m) (endsIn (overOf r) (ownOf (countOf (r .count)))) tp m
+  over-gives m o e = subst (λ (x : Bool). OverIf x r tp (length m)) e o .1 m refl
+
+  module _ (room : ℕ) (d : DataIf told r tp room) (e : told ≡ true) where
+    yes-data : DataIf true r tp room
+    yes-data = subst (λ (x : Bool). DataIf x r tp room) e d
+
+    pub data-room : room ≡ r .limit
+    data-room = yes-data .0
+
+    pub data-in : InData r (length tp)
+    data-in = yes-data .1
+
+    pub data-gives : (m : List ℕ) → length m ≡ room → Gives (callOf r tp m) (endsIn (takenOf r (length tp - 4)) (ownOf (countOf (r .count)))) tp (putOf r tp m)
+    data-gives m f = yes-data .2 m f
 
 pub found-on : (tp : List ℕ) (first : Run) (m out : List ℕ) (r : Receiver) (at : ℕ) (m₁ out₁ : List ℕ) → Heard tp first m out r at m₁ out₁
     → (z : Run) → z .receiver ≡ r → z .at ≡ at → z .from ≡ first .from → z .done ≡ first .done → Found tp first m out z m₁ out₁

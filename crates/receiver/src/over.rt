@@ -162,11 +162,11 @@ pub fn is_data(r: Receiver, tp: &[u8], room: usize) -> bool
     if room != r.limit {
         return false;
     }
-    let b = tp[0];
-    if b / 16 != r.stream {
+    let first = tp[0];
+    if first / 16 != r.stream {
         return false;
     }
-    b % 4 == 0
+    first % 4 == 0
 }
 
 // The receiver behind such a TP, whose data go to the room.
@@ -203,12 +203,13 @@ pub fn taken(r: Receiver, tp: &[u8], room: &mut [u8]) -> Receiver
         began: first,
         len: len + n,
     };
+    let stage = Stage::Fresh;
     Receiver {
         size: r.size,
         stream: r.stream,
         limit: r.limit,
         count: stamps::counted(r.count),
-        stage: Stage::Fresh,
+        stage,
         walk: Walk {
             at: 0,
             phase,

@@ -53,8 +53,8 @@ returns-7 c = search needs
 returns-8 : tie.Need-returns-8
 returns-8 c = search needs
 
-shared-slice-read-b : tie.Need-shared-slice-read-b
-shared-slice-read-b c = search needs
+shared-slice-read-first : tie.Need-shared-slice-read-first
+shared-slice-read-first c = search needs
 
 returns-9 : tie.Need-returns-9
 returns-9 c = search needs
@@ -87,6 +87,6 @@ is-data-spec =
     returns-6
     returns-7
     returns-8
-    shared-slice-read-b
+    shared-slice-read-first
     returns-9
     returns-10)

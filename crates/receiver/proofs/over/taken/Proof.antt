@@ -42,14 +42,14 @@ part-copy-at-end c = search needs
 copy-at-requires : tie.Need-copy-at-requires
 copy-at-requires c κs = search needs
 
-sub-t17 : tie.Need-sub-t17
-sub-t17 c =
+sub-t18 : tie.Need-sub-t18
+sub-t18 c =
     let s = c .before .before .before .before .before .before .before .before .before .before .before .before .before .before .before in
     let a = s .args in
     omega (arith, taken-less (a .r) (a .tp .now) (a .room .now) (s .pre .0) (s .pre .1) (s .pre .2) _ _ _ _ _ _ (c .before .before .before .before .before .before .before .before .before .phase .given .1) (c .before .before .before .before .before .before .kept .given .1))
 
-add-t17 : tie.Need-add-t17
-add-t17 c =
+add-t18 : tie.Need-add-t18
+add-t18 c =
     let s = c .before .before .before .before .before .before .before .before .before .before .before .before .before .before .before in
     let a = s .args in
     omega (arith, taken-less (a .r) (a .tp .now) (a .room .now) (s .pre .0) (s .pre .1) (s .pre .2) _ _ _ _ _ _ (c .before .before .before .before .before .before .before .before .before .phase .given .1) (c .before .before .before .before .before .before .kept .given .1), taken-fits (a .r) (a .tp .now) (a .room .now) (s .pre .0) (s .pre .1) (s .pre .2) _ _ _ _ _ _ (c .before .before .before .before .before .before .before .before .before .phase .given .1) (c .before .before .before .before .before .before .kept .given .1))
@@ -80,8 +80,8 @@ taken-spec =
     part-copy-at-start
     part-copy-at-end
     copy-at-requires
-    sub-t17
-    add-t17
+    sub-t18
+    add-t18
     counted-requires
     same-length
     returns-3)
