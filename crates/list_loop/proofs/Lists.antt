@@ -1,7 +1,7 @@
 -- One find more, and one record more: from what a call or a record's turn ensures to what the loops promise. Assumes nothing.
-use Prim.Native.Nat.{ℕ, _+_, _-_}
+use Prim.Native.Nat.{ℕ, _+_}
 use mathlib.Core.Path.{_≡_, refl, ap, sym, subst, subst⁻¹, _∙_}
-use mathlib.Core.Bool.{Bool, true, false}
+use mathlib.Core.Bool.{true, false}
 use mathlib.Core.Logic.{inl, inr, ⊎-elim}
 use mathlib.Core.List.{List, [], _++_, append-assoc, append-nil}
 use lib.ListN.{length, take}
@@ -16,8 +16,6 @@ use Rattle.listing.specs.Hearing.{Hears, nothing, then, Ends, last}
 use Rattle.listing.specs.Lines.{lineOf}
 use Rattle.receiver.specs.Call.{Gives, callOf, gapOf, lasts}
 use Rattle.receiver.specs.Lanes.{endsIn}
-use Rattle.receiver.specs.Over.{DataIf, InData, OverIf, overOf, putOf, takenOf}
-use Rattle.receiver.specs.Place.{countOf, ownOf}
 use Rattle.receiver.specs.State.{Able}
 use Rattle.receiver.specs.declared.Receiver.{Receiver}
 use Rattle.receiver.specs.declared.Stamp.{Stamp}
@@ -68,24 +66,6 @@ module _ (tp : List ℕ) (first : Run) (m out : List ℕ) (q : Receiver) (t : St
   found-ended z m₁ er em ea ef ed =
       subst⁻¹ (λ (x : List ℕ). Found tp first m out z x out) em
       (found-done tp first m out (first .receiver) (first .at) m out (heard-none tp first m out) (endsIn q t) (first .at) m′ out g (sym (append-nil (take (first .at) out))) z refl er ea ef ed)
-
--- it is passed over, or all of it is data
-module _ (r : Receiver) (tp : List ℕ) (told : Bool) where
-  pub over-gives : (m : List ℕ) → OverIf told r tp (length m) → told ≡ true → Gives (callOf r tp m) (endsIn (overOf r) (ownOf (countOf (r .count)))) tp m
-  over-gives m o e = subst (λ (x : Bool). OverIf x r tp (length m)) e o .1 m refl
-
-  module _ (room : ℕ) (d : DataIf told r tp room) (e : told ≡ true) where
-    yes-data : DataIf true r tp room
-    yes-data = subst (λ (x : Bool). DataIf x r tp room) e d
-
-    pub data-room : room ≡ r .limit
-    data-room = yes-data .0
-
-    pub data-in : InData r (length tp)
-    data-in = yes-data .1
-
-    pub data-gives : (m : List ℕ) → length m ≡ room → Gives (callOf r tp m) (endsIn (takenOf r (length tp - 4)) (ownOf (countOf (r .count)))) tp (putOf r tp m)
-    data-gives m f = yes-data .2 m f
 
 pub found-on : (tp : List ℕ) (first : Run) (m out : List ℕ) (r : Receiver) (at : ℕ) (m₁ out₁ : List ℕ) → Heard tp first m out r at m₁ out₁
     → (z : Run) → z .receiver ≡ r → z .at ≡ at → z .from ≡ first .from → z .done ≡ first .done → Found tp first m out z m₁ out₁

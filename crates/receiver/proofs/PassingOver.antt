@@ -317,3 +317,23 @@ module _ (r : Receiver) (tp m : List ℕ) (able : Able r) (full : length m ≡ r
         let a = i .payload in
         let z : length tp - 4 ≡ 4 + (length tp - 4) - 4 = omega arith in
         put-is tp 4 (length tp - 4) c e g len (r .walk .kept) m m′ k (omega arith) (omega (arith, taken-fits, taken-less)) (q ∙ ap (λ (j : ℕ). copied m len (take j (drop 4 tp))) z)
+
+-- ---- what a yes tells
+
+module _ (r : Receiver) (tp : List ℕ) (answer : Bool) (is : answer ≡ true) where
+  pub over-gives : (m : List ℕ) → OverIf answer r tp (length m) → Gives (callOf r tp m) (endsIn (overOf r) (ownOf (countOf (r .count)))) tp m
+  over-gives m o = subst (λ (x : Bool). OverIf x r tp (length m)) is o .1 m refl
+
+  module _ (m : List ℕ) (d : DataIf answer r tp (length m)) where
+    yes-data : DataIf true r tp (length m)
+    yes-data = subst (λ (x : Bool). DataIf x r tp (length m)) is d
+
+    -- what `receiver::over::taken` asks for
+    pub data-asked : Able r → Able r × (length m ≡ r .limit) × InData r (length tp)
+    data-asked able = (able, yes-data .0, yes-data .1)
+
+    pub data-gives : Gives (callOf r tp m) (endsIn (takenOf r (length tp - 4)) (ownOf (countOf (r .count)))) tp (putOf r tp m)
+    data-gives = yes-data .2 m refl
+
+    pub data-able : (q : Receiver) → q ≡ takenOf r (length tp - 4) → Able q
+    data-able q e = subst Able (sym e) (data-gives .able)

@@ -2,9 +2,9 @@
 -- Assumes nothing.
 use mathlib.Core.Path.{refl}
 use mathlib.Core.Logic.{⊎-elim}
-use lib.ListN.{length}
 use native.Mathlib.Omega.{arith}
-use Rattle.list_loop.proofs.Lists.{able-ended, data-gives, data-in, data-room, does-found, does-told, found-ended, over-gives}
+use Rattle.list_loop.proofs.Lists.{able-ended, does-found, does-told, found-ended}
+use Rattle.receiver.proofs.PassingOver.{data-asked, data-gives, over-gives}
 use borrow.Author.Needs.{needs}
 use Rattle.list_loop.proofs.turn.Statement.{statement}
 use Rattle.list_loop.proofs.turn.Tie as tie
@@ -32,7 +32,7 @@ returns c =
     let s = c .before .before .before .before .before .before .before .before .before .before .before .before in
     let a = s .args in
     let o = c .before .before .before .before .is-over in
-    let g = over-gives (a .run .receiver) (a .«data» .now) (o .result) (a .room .now) (o .ensures) (c .before .before .before .if1 .taken) in
+    let g = over-gives (a .run .receiver) (a .«data» .now) (o .result) (c .before .before .before .if1 .taken) (a .room .now) (o .ensures) in
     let b = c .before .before .behind .ensures in (
       record {
         able = able-ended (a .«data» .now) (a .run) (a .room .now) (a .out .now) _ _ _ g _ b;
@@ -54,8 +54,7 @@ taken-requires c κs =
     let s = c .before .before .before .before .before .before .before .before .before .before .before .before in
     let a = s .args in
     let o = c .before .before .is-data in
-    let yes = c .before .if2 .taken in
-    (s .pre .able, data-room (a .run .receiver) (a .«data» .now) (o .result) (length (a .room .now)) (o .ensures) yes, data-in (a .run .receiver) (a .«data» .now) (o .result) (length (a .room .now)) (o .ensures) yes)
+    data-asked (a .run .receiver) (a .«data» .now) (o .result) (c .before .if2 .taken) (a .room .now) (o .ensures) (s .pre .able)
 
 add-t19 : tie.Need-add-t19
 add-t19 c = let f = c .before .before .before .before .before .before .before .before .before .before .before .before .before .before .before .before .pre .count in omega (arith, f)
@@ -75,7 +74,7 @@ returns-2 c =
     let a = s .args in
     let o = c .before .before .before .before .before .before .before .is-data in
     let t = c .before .before .before .before .taken .ensures in
-    let g = data-gives (a .run .receiver) (a .«data» .now) (o .result) (length (a .room .now)) (o .ensures) (c .before .before .before .before .before .before .if2 .taken) (a .room .now) refl in
+    let g = data-gives (a .run .receiver) (a .«data» .now) (o .result) (c .before .before .before .before .before .before .if2 .taken) (a .room .now) (o .ensures) in
     let b = t .0 in (
       record {
         able = able-ended (a .«data» .now) (a .run) (a .room .now) (a .out .now) _ _ _ g _ b;
