@@ -1,7 +1,7 @@
 -- One find more, and one record more: from what a call or a record's turn ensures to what the loops promise. Assumes nothing.
 use Prim.Native.Nat.{ℕ, _+_}
 use mathlib.Core.Path.{_≡_, refl, ap, sym, subst, subst⁻¹, _∙_}
-use mathlib.Core.Bool.{Bool, true, false}
+use mathlib.Core.Bool.{true, false}
 use mathlib.Core.Logic.{inl, inr, ⊎-elim}
 use mathlib.Core.List.{List, [], _++_, append-assoc, append-nil}
 use lib.ListN.{length, take}
@@ -16,10 +16,9 @@ use Rattle.listing.specs.Hearing.{Hears, nothing, then, Ends, last}
 use Rattle.listing.specs.Lines.{lineOf}
 use Rattle.receiver.specs.Call.{Gives, callOf, gapOf, lasts}
 use Rattle.receiver.specs.Lanes.{endsIn}
-use Rattle.receiver.specs.Over.{OverIf, overOf}
-use Rattle.receiver.specs.Place.{countOf, ownOf}
 use Rattle.receiver.specs.State.{Able}
 use Rattle.receiver.specs.declared.Receiver.{Receiver}
+use Rattle.receiver.specs.declared.Stamp.{Stamp}
 use Rattle.receiver.specs.declared.Step.{Step}
 use Rattle.list_loop.specs.Running.{Found, Told, Does, Standing, standing, Lists, hears, ends, gap, Listed}
 use Rattle.list_loop.specs.Running as L
@@ -57,19 +56,16 @@ module _ (tp : List ℕ) (first : Run) (m out : List ℕ) (r : Receiver) (at : �
         heard = inr (subst⁻¹ (λ (x : Receiver). Ends tp (first .done + 1) (first .receiver) m (h .lines ++ lineOf (first .done + 1) (q .find)) x m₂) er (last (h .hears) g off), (ef, ed));
       }
 
--- a TP that is passed over is done, and has given no line
-module _ (tp : List ℕ) (first : Run) (m out : List ℕ) (over : Bool) (o : OverIf over (first .receiver) tp (length m)) (yes : over ≡ true) where
-  none : Gives (callOf (first .receiver) tp m) (endsIn (overOf (first .receiver)) (ownOf (countOf (first .receiver .count)))) tp m
-  none = subst (λ (x : Bool). OverIf x (first .receiver) tp (length m)) yes o .1 m refl
+-- a TP that one call is done with has given no line
+module _ (tp : List ℕ) (first : Run) (m out : List ℕ) (q : Receiver) (t : Stamp) (m′ : List ℕ) (g : Gives (callOf (first .receiver) tp m) (endsIn q t) tp m′) where
+  pub able-ended : (r : Receiver) → r ≡ q → Able r
+  able-ended r e = subst⁻¹ Able e (g .able)
 
-  pub able-over : (r : Receiver) → r ≡ overOf (first .receiver) → Able r
-  able-over r e = subst⁻¹ Able e (none .able)
-
-  pub found-over : (z : Run) → z .receiver ≡ overOf (first .receiver) → z .at ≡ first .at → z .from ≡ first .from + 8 + length tp → z .done ≡ first .done + 1
-      → Found tp first m out z m out
-  found-over z er ea ef ed =
-      found-done tp first m out (first .receiver) (first .at) m out (heard-none tp first m out)
-      (endsIn (overOf (first .receiver)) (ownOf (countOf (first .receiver .count)))) (first .at) m out none (sym (append-nil (take (first .at) out))) z refl er ea ef ed
+  pub found-ended : (z : Run) (m₁ : List ℕ) → z .receiver ≡ q → m₁ ≡ m′ → z .at ≡ first .at → z .from ≡ first .from + 8 + length tp → z .done ≡ first .done + 1
+      → Found tp first m out z m₁ out
+  found-ended z m₁ er em ea ef ed =
+      subst⁻¹ (λ (x : List ℕ). Found tp first m out z x out) em
+      (found-done tp first m out (first .receiver) (first .at) m out (heard-none tp first m out) (endsIn q t) (first .at) m′ out g (sym (append-nil (take (first .at) out))) z refl er ea ef ed)
 
 pub found-on : (tp : List ℕ) (first : Run) (m out : List ℕ) (r : Receiver) (at : ℕ) (m₁ out₁ : List ℕ) → Heard tp first m out r at m₁ out₁
     → (z : Run) → z .receiver ≡ r → z .at ≡ at → z .from ≡ first .from → z .done ≡ first .done → Found tp first m out z m₁ out₁

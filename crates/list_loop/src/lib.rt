@@ -84,6 +84,15 @@ fn turn(run: Run, said: Record, data: &[u8], room: &mut [u8], out: &mut [u8]) ->
                 from: run.from + 8 + data.len(),
             };
         }
+        if over::is_data(receiver, data, room.len()) {
+            return Run {
+                receiver: over::taken(receiver, data, room),
+                done: run.done + 1,
+                ten,
+                at: run.at,
+                from: run.from + 8 + data.len(),
+            };
+        }
         return finds(run, data, room, out);
     }
     Run {

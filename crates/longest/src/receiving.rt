@@ -5,6 +5,7 @@ use crate::samples::sampled;
 use receiver::Find;
 use receiver::Opened;
 use receiver::Receiver;
+use receiver::over;
 use std::num::wrapping_add_u64;
 
 // No TP gives so much, and no input has so many blocks: the loops end for this.
@@ -93,6 +94,22 @@ fn finds(first: Run, tp: &[u8], room: &mut [u8]) -> Run
     run
 }
 
+// One TP.
+fn whole(run: Run, tp: &[u8], room: &mut [u8]) -> Run
+    requires { ⌜ Able (run .receiver) ⌝ }
+    ensures { λ r. ⌜ Able (r .receiver) ⌝ }
+{
+    let before = run.receiver;
+    if over::is_data(before, tp, room.len()) {
+        let tally = run.tally;
+        return Run {
+            receiver: over::taken(before, tp, room),
+            tally,
+        };
+    }
+    finds(run, tp, room)
+}
+
 // All TPs of a block; bytes that are no whole TP are left out.
 fn block(first: Run, tps: &[u8], room: &mut [u8]) -> Run
     requires { ⌜ Able (first .receiver) ⌝ }
@@ -102,7 +119,7 @@ fn block(first: Run, tps: &[u8], room: &mut [u8]) -> Run
     let mut i = 0;
     while TP <= tps.len() - i {
         let end = i + TP;
-        run = finds(run, &tps[i..end], room);
+        run = whole(run, &tps[i..end], room);
         i = end;
     }
     run

@@ -227,7 +227,7 @@ module _ (start from : ℕ) (t : Stamp) (tp m : List ℕ) (bytes : Bytes tp) (s 
       let o = free-on (length m) t tp start from g m refl s in
       reach-carries (length m) t tp (between start g Empty) (between from g Empty) _ m m m o (advance-carries (length m) t tp m refl bytes (between from g Empty) (o .sound))
 
-  cut-ends : (g : Place) (rest : ℕ) → rest ≡ length tp - from → rest < 6
+  pub cut-ends : (g : Place) (rest : ℕ) → rest ≡ length tp - from → rest < 6
       → Ends (length m) t (between start g Empty) tp m (answerAt (from + rest) (Head (0 + rest) (number 0 (take rest (drop from tp)))) (placeAt t from) Nothing) m
   unfolding Carries headerTurn
   cut-ends g rest q few = rw (← q, lt-ltb rest 6 few) at (headed g)

@@ -68,7 +68,7 @@ module _ (r : Receiver) (tp : List ℕ) (l : Lent r tp) where
   t = stampsOf r .now
 
   -- what the forecast decides, in a TP without low-latency part
-  fresh-by : (n o : ℕ) (x : Walk) → r .stage ≡ Fresh → topOf (r .stream) tp ≡ Says false o → placeOf o 4 (length tp) ≡ Behind n → O.Reads x ≡ setOutOf (walkTo c 4) n tp
+  pub fresh-by : (n o : ℕ) (x : Walk) → r .stage ≡ Fresh → topOf (r .stream) tp ≡ Says false o → placeOf o 4 (length tp) ≡ Behind n → O.Reads x ≡ setOutOf (walkTo c 4) n tp
       → Leads (stageCall (r .stage) r c (stampsOf r) tp) c t tp (C.Reads x)
   fresh-by n o x e top place s =
       let size = l .able .size in
@@ -80,7 +80,7 @@ module _ (r : Receiver) (tp : List ℕ) (l : Lent r tp) where
       part-leads (stageCall (r .stage) r c (stampsOf r) tp) c t tp (B.Part false o 4) begins false o 4 (C.Reads x) refl
       (due-behind c t o 4 tp more (C.Reads x) n place (set-reads c t 4 n tp (O.Reads x) more x within s refl))
 
-  fresh-leads : (n : ℕ) → r .stage ≡ Fresh → I.Behind (r .stream) tp n → foreOf (r .walk .phase) (drop 4 tp) ≡ At n
+  pub fresh-leads : (n : ℕ) → r .stage ≡ Fresh → I.Behind (r .stream) tp n → foreOf (r .walk .phase) (drop 4 tp) ≡ At n
       → Leads (stageCall (r .stage) r c (stampsOf r) tp) c t tp (C.Reads (walkTo c 4))
   fresh-leads n e b f = fresh-by n (b .offset) (walkTo c 4) e (b .top) (b .place) (set-agree (walkTo c 4) n tp n f refl)
 

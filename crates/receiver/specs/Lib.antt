@@ -19,7 +19,7 @@ pub mod Pieces
 pub mod Turn
 -- a receiver's lanes: what loops over TPs carry
 pub mod Lanes
--- a TP that is passed over
+-- a TP that one call is done with
 pub mod Over
 -- a receiver as words, and back
 pub mod Words
@@ -31,3 +31,4 @@ pub mod InSeries
 pub mod InLanes
 pub mod InOutset
 pub mod InStages
+pub mod InOver
