@@ -5,8 +5,8 @@ use borrow.Author.Needs.{needs}
 use Rattle.jenugathi.proofs.receiving.call.Statement.{statement}
 use Rattle.jenugathi.proofs.receiving.call.Tie as tie
 
-words-next-requires : tie.Need-words-next-requires
-words-next-requires c κs = search needs
+next-requires : tie.Need-next-requires
+next-requires c κs = search needs
 
 enum-known-f : tie.Need-enum-known-f
 enum-known-f c = search needs
@@ -23,8 +23,8 @@ enum-told c = search needs
 receiver-in-requires : tie.Need-receiver-in-requires
 receiver-in-requires c κs = search needs
 
-next-requires : tie.Need-next-requires
-next-requires c κs =
+next-requires-2 : tie.Need-next-requires-2
+next-requires-2 c κs =
     let s = c .before .before .before .before .before .before .before .before .before .before .before .before in
     let a = s .args in
     able-still (a .w .now) (a .tp .now) (a .room .now) (s .pre) _ _ _ _ (c .before .before .before .before .before .before .before .next .ensures) (c .before .before .before .enum-told .given .1) (c .before .receiver-in .ensures)
@@ -54,19 +54,19 @@ returns-2 : tie.Need-returns-2
 returns-2 c =
     let s = c .before .before .before .before .before .before .before .before .before .before .before .before .before .before .before .before .before .before .before .before in
     let a = s .args in
-    by-value (a .w .now) (a .tp .now) (a .room .now) (s .pre) _ _ _ _ _ _ _ _ _ (c .before .before .before .before .before .before .before .before .before .before .before .before .before .before .before .next .ensures) (c .before .before .before .before .before .before .before .before .before .before .before .enum-told .given .1) (c .before .before .before .before .before .before .before .before .before .receiver-in .ensures) (c .before .before .before .before .before .before .before .next .ensures) (c .before .before .words-of .ensures) (c .before .find-words2 .ensures) (c .number-of2 .ensures)
+    by-value (a .w .now) (a .tp .now) (a .room .now) (s .pre) _ _ _ _ _ _ _ _ _ (c .before .before .before .before .before .before .before .before .before .before .before .before .before .before .before .next .ensures) (c .before .before .before .before .before .before .before .before .before .before .before .enum-told .given .1) (c .before .before .before .before .before .before .before .before .before .receiver-in .ensures) (c .before .before .before .before .before .before .before .next2 .ensures) (c .before .before .words-of .ensures) (c .before .find-words2 .ensures) (c .number-of2 .ensures)
 
 pub call-spec : {M : Type 1} → statement M
 call-spec =
     tie.close
     (tie.spec
-    words-next-requires
+    next-requires
     enum-known-f
     find-words-requires
     number-of-requires
     enum-told
     receiver-in-requires
-    next-requires
+    next-requires-2
     words-of-requires
     find-words-requires-2
     number-of-requires-2
