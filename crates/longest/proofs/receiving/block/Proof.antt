@@ -22,17 +22,17 @@ sub-loop c = search needs
 add-end : tie.Need-add-end Inv-loop μ-loop
 add-end c = search needs
 
-sub-finds : tie.Need-sub-finds Inv-loop μ-loop
-sub-finds c = search needs
+sub-whole : tie.Need-sub-whole Inv-loop μ-loop
+sub-whole c = search needs
 
-part-finds-start : tie.Need-part-finds-start Inv-loop μ-loop
-part-finds-start c = search needs
+part-whole-start : tie.Need-part-whole-start Inv-loop μ-loop
+part-whole-start c = search needs
 
-part-finds-end : tie.Need-part-finds-end Inv-loop μ-loop
-part-finds-end c = search needs
+part-whole-end : tie.Need-part-whole-end Inv-loop μ-loop
+part-whole-end c = search needs
 
-finds-requires : tie.Need-finds-requires Inv-loop μ-loop
-finds-requires c κs = search needs
+whole-requires : tie.Need-whole-requires Inv-loop μ-loop
+whole-requires c κs = search needs
 
 loop-less : tie.Need-loop-less Inv-loop μ-loop
 loop-less c = search needs
@@ -55,10 +55,10 @@ block-spec =
     loop-holds
     sub-loop
     add-end
-    sub-finds
-    part-finds-start
-    part-finds-end
-    finds-requires
+    sub-whole
+    part-whole-start
+    part-whole-end
+    whole-requires
     loop-less
     loop-again
     same-length
