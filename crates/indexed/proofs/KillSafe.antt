@@ -25,7 +25,7 @@ use Rattle.indexed.specs.File.{linesText, numberOf, byteOf, topWith, top
 use Rattle.indexed.proofs.Records.{behind-append}
 use Rattle.indexed.proofs.Grown.{grown, since-positive}
 
-lines-append : (xs ys : List Line) → linesText (xs ++ ys) ≡ linesText xs ++ linesText ys
+pub lines-append : (xs ys : List Line) → linesText (xs ++ ys) ≡ linesText xs ++ linesText ys
 lines-append [] ys = refl
 lines-append (x ∷ xs) ys = ap (λ (l : List ℕ). lineText x ++ l) (lines-append xs ys) ∙ sym (append-assoc (lineText x) (linesText xs) (linesText ys))
 
