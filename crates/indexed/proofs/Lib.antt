@@ -28,4 +28,5 @@ pub mod Calls
 pub mod Adding
 pub mod Finds
 pub mod Between
+pub mod Recorded
 pub mod Loop

@@ -30,23 +30,17 @@ use Rattle.index_loop.specs.Walking.{Ends, Pauses, Standing, Takes, stays, paus
 use Rattle.index_loop.specs.declared.Stop.the-variants.{More}
 use Rattle.index_loop.specs.declared.Task.the-variants.{Index}
 use Rattle.indexed.specs.Index.{behind, behindAll, sinceOf}
-use Rattle.indexed.specs.Loop.{Records, over, tp, Shows, Of, heldIn, emptied, Begins, Writes, starts, onward, Counted, Listed, Within, Lists, ListsAll}
-use Rattle.indexed.specs.Loop as L
+use Rattle.indexed.specs.Loop.{Records, Shows, Of, heldIn, emptied, Begins, Writes, starts, onward, Counted, Listed, Within, Lists, ListsAll}
 use Rattle.indexed.proofs.Adding.{Adds, adds-none, adds-then}
 use Rattle.indexed.proofs.Between.{whole-there, data-there, shows-behind, Between, Amid, begin, goes, done, others, told}
 use Rattle.indexed.proofs.Calls.{pending-since}
 use Rattle.indexed.proofs.Finds.{textIn}
+use Rattle.indexed.proofs.Recorded.{records-append, records-tp, packet-size, no-gap}
 use Rattle.indexed.proofs.Records.{behind-append}
 
 -- no number of 64 bits was too small
 abbrev Counts : ℕ → Standing → Type 0
 Counts gone b = (b .number < 0xFFFFFFFFFFFFFFFF) × (gone + b .from < 0xFFFFFFFFFFFFFFFF)
-
-packet-size : (u : List ℕ) (k n : ℕ) → atHand Listing u ≡ Whole (Packet k) → atHand Listing u ≡ Whole (Packet n) → k ≡ n
-packet-size u k n d e = let both : Whole (Packet k) ≡ Whole (Packet n) = sym d ∙ e in cc
-
-no-gap : (u : List ℕ) (k : ℕ) → atHand Listing u ≡ Whole (Packet k) → atHand Listing u ≡ Whole Gap → ⊥
-no-gap u k d e = let other : Whole (Packet k) ≡ Whole Gap = sym d ∙ e in let z : _≡_ {A = ℕ} 0 1 = cc in omega arith
 
 no-part : (u : List ℕ) (k : ℕ) → atHand Listing u ≡ Whole (Packet k) → atHand Listing u ≡ Part → ⊥
 no-part u k d e = let other : Whole (Packet k) ≡ Part = sym d ∙ e in let z : _≡_ {A = ℕ} 0 1 = cc in omega arith
@@ -155,7 +149,7 @@ module _ (covered : ℕ) (s : Setting) (recording : List ℕ) (p : Stamp) where
               text = g .text;
               stood = record {
                 inputs = t .inputs ++ tpIn (bytes n) ∷ [];
-                records = subst (λ (i : ℕ). Records recording (p .byte) (t .inputs ++ tpIn (bytes n) ∷ []) i) place (tp (t .records) whole-is);
+                records = records-append recording (t .inputs) (tpIn (bytes n) ∷ []) (p .byte) (gone + b .from) (gone + (b .from + 8 + n)) (t .records) (records-tp recording (gone + b .from) n (gone + (b .from + 8 + n)) whole-is place);
                 next = next-on (tpIn (bytes n)) (sumOf (b .number) 1) (b .from + 8 + n) (omega arith) (omega arith);
                 shows = shows-behind recording block gone (b .from) till (t .shows) (Packet n) whole (b .from + 8 + n) refl;
                 now = inl (g .between);
@@ -172,7 +166,7 @@ module _ (covered : ℕ) (s : Setting) (recording : List ℕ) (p : Stamp) where
             text = [];
             stood = record {
               inputs = t .inputs ++ gapTold ∷ [];
-              records = subst (λ (i : ℕ). Records recording (p .byte) (t .inputs ++ gapTold ∷ []) i) place (L.gap (t .records) whole-is);
+              records = records-append recording (t .inputs) (gapTold ∷ []) (p .byte) (gone + b .from) (gone + (b .from + 8)) (t .records) (whole-is, place);
               next = next-on gapTold (sumOf (b .number) 1) (b .from + 8) (omega arith) (omega arith);
               shows = shows-behind recording block gone (b .from) till (t .shows) Gap whole (b .from + 8) (omega arith);
               now = inl (subst⁻¹ (λ (l : List ℕ). Between covered s p (t .inputs ++ gapTold ∷ []) l (gapOf (b .receiver)) (b .room)) (append-nil put) (told covered s p (between-at whole)));
@@ -268,7 +262,7 @@ module _ (covered : ℕ) (s : Setting) (recording : List ℕ) (p : Stamp) where
       let place : p .byte ≡ a .unread .gone + a .unread .from = plus ∙ ap (λ (u : Unread). u .gone + u .from) (sym (b .unread)) in
       record {
         inputs = [];
-        records = subst (λ (i : ℕ). Records recording (p .byte) [] i) place over;
+        records = place;
         next = ap₂ (λ (i j : ℕ). record { number = i; byte = j }) (sym (b .number)) place;
         shows = subst⁻¹ (λ (u : Unread). unreadIn (a .block) (u .from) (u .till) ≡ unreadIn (drop (u .gone) recording) (u .from) (u .till)) (b .unread) nothing-read;
         now = inl (record {

@@ -27,7 +27,7 @@ use Rattle.indexing.specs.Lines.{Line}
 use Rattle.index_loop.specs.Advancing.{Reached, Advances, begun, takes, reads}
 use Rattle.index_loop.specs.declared.Task.{Task}
 use Rattle.index_loop.specs.declared.Task.the-variants.{Index}
-use Rattle.indexed.specs.Index.{behind, behindAll, fresh, packets, recordOf, standAt, sinceOf}
+use Rattle.indexed.specs.Index.{startStamp, behind, behindAll, fresh, packets, recordOf, standAt, sinceOf, indexOf}
 use Rattle.indexed.specs.File.{linesText}
 
 -- "lists nothing twice": the records before the one with the number `covered` are only read
@@ -39,12 +39,11 @@ linesSince covered s p t (x ∷ xs) =
 -- ---- the recording, and what is read of it
 
 -- its whole records, one behind the other, from one byte of it to another
-pub data Records (recording : List ℕ) (first : ℕ) : List Input → ℕ → Type 0 where
-  over : Records recording first [] first
-  tp : {xs : List Input} {i n : ℕ} → Records recording first xs i → atHand Listing (drop i recording) ≡ Whole (Packet n)
-      → Records recording first (xs ++ tpIn (dataIn (Packet n) (drop i recording)) ∷ []) (i + 8 + n)
-  gap : {xs : List Input} {i : ℕ} → Records recording first xs i → atHand Listing (drop i recording) ≡ Whole Gap
-      → Records recording first (xs ++ gapTold ∷ []) (i + 8)
+abbrev pub Records : List ℕ → ℕ → List Input → ℕ → Type 0
+Records recording i [] k = i ≡ k
+Records recording i (tpIn d ∷ xs) k =
+    (atHand Listing (drop i recording) ≡ Whole (Packet (length d))) × ((dataIn (Packet (length d)) (drop i recording) ≡ d) × Records recording (i + 8 + length d) xs k)
+Records recording i (gapTold ∷ xs) k = (atHand Listing (drop i recording) ≡ Whole Gap) × Records recording (i + 8) xs k
 
 -- the stretch of a block is the recording's, so many bytes of which were before the block
 abbrev pub Shows : List ℕ → List ℕ → Unread → Type 0
@@ -136,3 +135,25 @@ Lists = (covered : ℕ) (s : Setting) (recording : List ℕ) (p : Stamp) (a b : 
 abbrev pub ListsAll : Type 0
 ListsAll = (covered : ℕ) (s : Setting) (recording : List ℕ) (p : Stamp) (a b : Reached) (w : List ℕ) → Begins s p a → Writes covered recording a w b → Counted b
     → ((r : Record) → atHand Listing (stretch (b .block) (b .unread)) ≡ Whole r → ⊥) → Listed covered s recording p w b
+
+-- ---- made and grown
+
+-- "growing reads from there, else from the first new record"
+abbrev pub readsFrom : Option Stamp → Stamp → Stamp
+readsFrom none p = p
+readsFrom (some q) p = q
+
+-- the index of the records xs, and of new ones: its lines with what was written, the first record that is not covered, and the record that
+-- line 0 names
+pub record Grew (s : Setting) (recording : List ℕ) (xs : List Input) (w : List ℕ) (b : Reached) : Type 0 where
+  pub new : List Input
+  pub records : Records recording (startStamp .byte) (xs ++ new) (byteAt b)
+  pub next : indexOf s (xs ++ new) .next ≡ record { number = b .number; byte = byteAt b }
+  pub since : indexOf s (xs ++ new) .since ≡ stampBy (pendingOf (b .receiver .walk))
+  pub lines : linesText (indexOf s (xs ++ new) .lines) ≡ linesText (indexOf s xs .lines) ++ w
+
+-- THE STATEMENT for c7index: from the index of the recording's records xs, of none where it is made, until no whole record is at hand
+abbrev pub Grows : Type 0
+Grows = (s : Setting) (recording : List ℕ) (xs : List Input) (a b : Reached) (w : List ℕ) → Records recording (startStamp .byte) xs (indexOf s xs .next .byte)
+    → Begins s (readsFrom (indexOf s xs .since) (indexOf s xs .next)) a → Writes (indexOf s xs .next .number) recording a w b → Counted b
+    → ((r : Record) → atHand Listing (stretch (b .block) (b .unread)) ≡ Whole r → ⊥) → indexOf s xs .next .number ≤ b .number → Grew s recording xs w b
