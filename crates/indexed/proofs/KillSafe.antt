@@ -29,7 +29,7 @@ pub lines-append : (xs ys : List Line) → linesText (xs ++ ys) ≡ linesText xs
 lines-append [] ys = refl
 lines-append (x ∷ xs) ys = ap (λ (l : List ℕ). lineText x ++ l) (lines-append xs ys) ∙ sym (append-assoc (lineText x) (linesText xs) (linesText ys))
 
-number-behind : (xs : List Input) (p : Stamp) → behindAll p xs .number ≡ p .number + length xs
+pub number-behind : (xs : List Input) (p : Stamp) → behindAll p xs .number ≡ p .number + length xs
 number-behind [] p = omega arith
 number-behind (x ∷ xs) p = let e = number-behind xs (behind p x) in omega arith
 

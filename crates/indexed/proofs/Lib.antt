@@ -30,3 +30,5 @@ pub mod Finds
 pub mod Between
 pub mod Recorded
 pub mod Loop
+pub mod Growing
+pub mod Contracts

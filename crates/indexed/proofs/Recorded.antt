@@ -21,7 +21,6 @@ packet-size u k n d e = let both : Whole (Packet k) ≡ Whole (Packet n) = sym d
 pub no-gap : (u : List ℕ) (k : ℕ) → atHand Listing u ≡ Whole (Packet k) → atHand Listing u ≡ Whole Gap → ⊥
 no-gap u k d e = let other : Whole (Packet k) ≡ Whole Gap = sym d ∙ e in let z : _≡_ {A = ℕ} 0 1 = cc in omega arith
 
-
 module _ (recording : List ℕ) where
   -- one TP
   pub records-tp : (i n k : ℕ) → atHand Listing (drop i recording) ≡ Whole (Packet n) → i + 8 + n ≡ k → Records recording i (tpIn (dataIn (Packet n) (drop i recording)) ∷ []) k
