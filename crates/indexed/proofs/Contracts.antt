@@ -4,12 +4,8 @@ use mathlib.Core.Path.{_≡_, refl, ap, sym, subst, _∙_}
 use mathlib.Core.List.{List, _++_}
 use native.Mathlib.Omega.{arith}
 use lib.ListN.{length, take}
-use Rattle.console.specs.Taking.{stretch}
 use Rattle.console.specs.declared.Unread.{Unread}
-use Rattle.house.specs.Slices.{atHand}
 use Rattle.house.specs.declared.AtHand.the-variants as A
-use Rattle.house.specs.declared.Place.the-variants.{Listing}
-use Rattle.house.specs.declared.Record.{Record}
 use Rattle.receiver.specs.Call.{OpenedAs}
 use Rattle.receiver.specs.State.{Able}
 use Rattle.receiver.specs.declared.Opened.the-variants.{Ready}
@@ -22,7 +18,7 @@ use Rattle.index_loop.specs.declared.Stop.{Stop}
 use Rattle.index_loop.specs.declared.Stop.the-variants.{More, End, Bad, Unreadable}
 use Rattle.index_loop.specs.declared.Task.the-variants.{Index}
 use Rattle.index_loop.specs.declared.Walk.{Walk}
-use Rattle.indexed.specs.Loop.{Of, Roomy, emptied, Begins, Writes, onward}
+use Rattle.indexed.specs.Loop.{Of, Roomy, emptied, Begins, Writes, onward, Ended}
 
 -- a receiver is opened, and the walk started at the record p
 pub begins : (size stream : ℕ) (p : Stamp) (x : Receiver) (walk : Walk) (d m out : List ℕ) → OpenedAs size stream (length m) (Ready x) → Starts x (p .number) (p .byte) walk
@@ -58,8 +54,8 @@ module _ (covered : ℕ) (recording : List ℕ) (a : Reached) (written : List �
           ∙ ap (λ (z : Unread). record { block = d′; unread = z; number = n; receiver = x; room = m′; out = blockOf out′ i }) eu
           ∙ ap (λ (z : List ℕ). record { block = z; unread = u; number = n; receiver = x; room = m′; out = blockOf out′ i }) eb
 
-  -- where there is none, no whole record is at hand
-  pub ended : (r .stop ≡ More → ⊥) → (said : Record) → atHand Listing (stretch (k .last) (r .unread)) ≡ A.Whole said → ⊥
+  -- where there is none, it ended
+  pub ended : (r .stop ≡ More → ⊥) → Ended (emptied (reached r (k .last) m′ out′))
   ended other said whole = by (r .stop) other (k .stop)
     where
       part : A.Whole said ≡ A.Part → ⊥

@@ -15,10 +15,10 @@ use Rattle.indexing.specs.Lines.{Line}
 use Rattle.index_loop.specs.Advancing.{Reached}
 use Rattle.indexed.specs.Index.{startStamp, behind, behindAll, fresh, packets, recordOf, linesOf, standAt, sinceOf, Index, indexOf, newLines, newSince, growOf}
 use Rattle.indexed.specs.File.{linesText}
-use Rattle.indexed.specs.Loop.{linesSince, Records, byteAt, stampBy, Listed, readsFrom, Grew, Grows}
+use Rattle.indexed.specs.Loop.{linesSince, Records, byteAt, stampBy, Written, readsFrom, Grew, Grows}
 use Rattle.indexed.proofs.Between.{since-append}
 use Rattle.indexed.proofs.Grown.{grown, since-own}
-use Rattle.indexed.proofs.KillSafe.{lines-append, number-behind}
+use Rattle.indexed.proofs.KillSafe.{lines-append, number-behind, more, lines-there}
 use Rattle.indexed.proofs.Loop.{lists-all}
 use Rattle.indexed.proofs.Recorded.{records-append, records-split, records-byte, records-longer}
 use Rattle.indexed.proofs.Records.{stand-append, behind-append}
@@ -57,7 +57,7 @@ module _ (s : Setting) (recording : List ℕ) (xs : List Input) where
     lines : w ≡ linesText (newLines s next since xs new)
 
   module _ (w : List ℕ) (b : Reached) (read : Records recording (startStamp .byte) xs (next .byte)) where
-    from-new : Listed covered s recording next w b → Splits none w b
+    from-new : Written covered s recording next w b → Splits none w b
     from-new l = record {
       new = l .inputs;
       records = records-append recording xs (l .inputs) (startStamp .byte) (next .byte) (byteAt b) read (l .records);
@@ -76,7 +76,7 @@ module _ (s : Setting) (recording : List ℕ) (xs : List Input) where
       behind-again : behindAll q again ≡ next
       behind-again = ap (λ (p : Stamp). behindAll p again) stamp-is ∙ sym (behind-append (take n xs) again startStamp) ∙ ap (behindAll startStamp) both
 
-      from-since : Listed covered s recording q w b → Splits (some q) w b
+      from-since : Written covered s recording q w b → Splits (some q) w b
       from-since l =
           let parts = records-split recording (take n xs) again (startStamp .byte) (next .byte) (subst⁻¹ (λ (zs : List Input). Records recording (startStamp .byte) zs (next .byte)) both read) in
           let byte-is : parts .0 ≡ q .byte = sym (records-byte recording (take n xs) (startStamp .byte) (parts .0) startStamp refl (parts .1 .0)) ∙ ap (λ (p : Stamp). p .byte) (sym stamp-is) in
@@ -114,7 +114,7 @@ module _ (s : Setting) (recording : List ℕ) (xs : List Input) where
 
 -- the index of all records
 grew : (s : Setting) (recording : List ℕ) (xs : List Input) (w : List ℕ) (b : Reached) → Splits s recording xs (indexOf s xs .since) w b → Grew s recording xs w b
-unfolding indexOf growOf
+unfolding indexOf growOf more
 grew s recording xs w b z =
     let e = grown s xs (z .new) in
     record {
@@ -122,6 +122,7 @@ grew s recording xs w b z =
       records = z .records;
       next = z .here;
       since = sym (z .pending ∙ ap (λ (i : Index). i .since) e);
+      added = z .lines ∙ ap linesText (sym (lines-there s xs (z .new)));
       lines =
           ap (λ (i : Index). linesText (i .lines)) (sym e)
           ∙ lines-append (indexOf s xs .lines) (newLines s (behindAll startStamp xs) (indexOf s xs .since) xs (z .new))
@@ -134,7 +135,7 @@ next-is s xs = refl
 
 splits : (s : Setting) (recording : List ℕ) (xs : List Input) (w : List ℕ) (b : Reached) (o : Option Stamp) → indexOf s xs .since ≡ o
     → Records recording (startStamp .byte) xs (behindAll startStamp xs .byte) → behindAll startStamp xs .number ≤ b .number
-    → Listed (behindAll startStamp xs .number) s recording (readsFrom o (behindAll startStamp xs)) w b → Splits s recording xs o w b
+    → Written (behindAll startStamp xs .number) s recording (readsFrom o (behindAll startStamp xs)) w b → Splits s recording xs o w b
 splits s recording xs w b none e read far l = from-new s recording xs w b read l
 splits s recording xs w b (some q) e read far l = let o = since-own s xs q e in from-since s recording xs w b read q (o .n) (o .stamp-is) (o .number-is) far l
 

@@ -17,7 +17,6 @@ use Rattle.house.specs.Series.{unreadIn}
 use Rattle.house.specs.Slices.{atHand, dataIn}
 use Rattle.house.specs.declared.AtHand.the-variants.{Part, Whole}
 use Rattle.house.specs.declared.Place.the-variants.{Listing}
-use Rattle.house.specs.declared.Record.{Record}
 use Rattle.house.specs.declared.Record.the-variants.{Packet, Gap}
 use Rattle.house.proofs.Slicing.{whole-data, whole-fits}
 use Rattle.receiver.specs.Call.{gapOf}
@@ -30,7 +29,7 @@ use Rattle.index_loop.specs.Walking.{Ends, Pauses, Standing, Takes, stays, paus
 use Rattle.index_loop.specs.declared.Stop.the-variants.{More}
 use Rattle.index_loop.specs.declared.Task.the-variants.{Index}
 use Rattle.indexed.specs.Index.{behind, behindAll, sinceOf}
-use Rattle.indexed.specs.Loop.{Records, Shows, Of, heldIn, emptied, Begins, Writes, starts, onward, Counted, Listed, Within, Lists, ListsAll}
+use Rattle.indexed.specs.Loop.{Records, Shows, Of, heldIn, emptied, Begins, Writes, starts, onward, Counted, Written, Within, Ended, Lists, ListsAll}
 use Rattle.indexed.proofs.Adding.{Adds, adds-none, adds-then}
 use Rattle.indexed.proofs.Between.{whole-there, data-there, shows-behind, Between, Amid, begin, goes, done, others, told}
 use Rattle.indexed.proofs.Calls.{pending-since}
@@ -300,10 +299,10 @@ module _ (covered : ℕ) (s : Setting) (recording : List ℕ) (p : Stamp) where
       }
 
   abbrev outcome : List ℕ → Reached → Type 0
-  outcome w b = Listed covered s recording p w b ⊎ Within covered s recording p w b
+  outcome w b = Written covered s recording p w b ⊎ Within covered s recording p w b
 
   module _ {w : List ℕ} {b : Reached} (t : Stands w b) where
-    listed : Between covered s p (t .inputs) w (b .receiver) (b .room) → Listed covered s recording p w b
+    listed : Between covered s p (t .inputs) w (b .receiver) (b .room) → Written covered s recording p w b
     listed x = record {
       inputs = t .inputs;
       records = t .records;
@@ -327,7 +326,7 @@ module _ (covered : ℕ) (s : Setting) (recording : List ℕ) (p : Stamp) where
           whole = o .1;
         }
 
-    all-listed : ((r : Record) → atHand Listing (stretch (b .block) (b .unread)) ≡ Whole r → ⊥) → Listed covered s recording p w b
+    all-listed : Ended b → Written covered s recording p w b
     all-listed none =
         let u = unreadIn (b .block) (b .unread .from) (b .unread .till) in
         ⊎-elim listed

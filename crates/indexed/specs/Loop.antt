@@ -1,4 +1,4 @@
--- WHAT THE INDEX PROGRAM'S LOOP PUTS (R-8): over what `index_loop::advance` promises, its output blocks hold the lines that `indexed.Index`
+-- WHAT THE INDEX PROGRAM'S LOOP WRITES (R-8): over what `index_loop::advance` promises, its output blocks hold the lines that `indexed.Index`
 -- defines for the records taken. Assumes nothing; `Of` says what is assumed of the operating system.
 use Prim.Native.Nat.{ℕ, _+_, _≤_, _<_}
 use mathlib.Core.Path.{_≡_}
@@ -28,7 +28,7 @@ use Rattle.index_loop.specs.Advancing.{Reached, Advances, begun, takes, reads}
 use Rattle.index_loop.specs.declared.Task.{Task}
 use Rattle.index_loop.specs.declared.Task.the-variants.{Index}
 use Rattle.indexed.specs.Index.{startStamp, behind, behindAll, fresh, packets, recordOf, standAt, sinceOf, indexOf}
-use Rattle.indexed.specs.File.{linesText}
+use Rattle.indexed.specs.File.{linesText, topOf, grownLines}
 
 -- "lists nothing twice": the records before the one with the number `covered` are only read
 abbrev pub linesSince : ℕ → Setting → Stamp → Stand → List Input → List Line
@@ -60,7 +60,7 @@ Of recording (reads {v = v} {d = d} k g) = Of recording k × Shows recording d v
 abbrev pub heldIn : Block → List ℕ
 heldIn o = take (o .at) (o .bytes)
 
--- one line more has room, so that each line before had: a line has at most 93 bytes. The program stops 4,096 bytes before the end
+-- one line more has room, so that each line before had: a line has at most 93 bytes. c7index stops 4,096 bytes before the block's end
 abbrev pub Roomy : Block → Type 0
 Roomy o = o .at + 93 ≤ length (o .bytes)
 
@@ -108,7 +108,7 @@ stampBy U.Nothing = none
 stampBy (U.From g) = some (g .stamp)
 
 -- between two TPs: the lines of the records taken, the next record's number and byte, and where what is unfinished began
-pub record Listed (covered : ℕ) (s : Setting) (recording : List ℕ) (p : Stamp) (w : List ℕ) (b : Reached) : Type 0 where
+pub record Written (covered : ℕ) (s : Setting) (recording : List ℕ) (p : Stamp) (w : List ℕ) (b : Reached) : Type 0 where
   pub inputs : List Input
   pub records : Records recording (p .byte) inputs (byteAt b)
   pub next : behindAll p inputs ≡ record { number = b .number; byte = byteAt b }
@@ -127,14 +127,18 @@ pub record Within (covered : ℕ) (s : Setting) (recording : List ℕ) (p : Stam
   pub begun : w ≡ linesText (linesSince covered s p fresh inputs) ++ first
   pub whole : w ++ others ≡ linesText (linesSince covered s p fresh (inputs ++ tpIn (dataIn (Packet size) (drop (byteAt b) recording)) ∷ []))
 
--- THE STATEMENT: wherever it stops, and between two TPs where no whole record is at hand
+-- no whole record is at hand: the recording ends there or cannot be read, or a bad record follows
+abbrev pub Ended : Reached → Type 0
+Ended b = (r : Record) → atHand Listing (stretch (b .block) (b .unread)) ≡ Whole r → ⊥
+
+-- THE STATEMENT: wherever it stops, and between two TPs where it ended
 abbrev pub Lists : Type 0
 Lists = (covered : ℕ) (s : Setting) (recording : List ℕ) (p : Stamp) (a b : Reached) (w : List ℕ) → Begins s p a → Writes covered recording a w b → Counted b
-    → Listed covered s recording p w b ⊎ Within covered s recording p w b
+    → Written covered s recording p w b ⊎ Within covered s recording p w b
 
 abbrev pub ListsAll : Type 0
 ListsAll = (covered : ℕ) (s : Setting) (recording : List ℕ) (p : Stamp) (a b : Reached) (w : List ℕ) → Begins s p a → Writes covered recording a w b → Counted b
-    → ((r : Record) → atHand Listing (stretch (b .block) (b .unread)) ≡ Whole r → ⊥) → Listed covered s recording p w b
+    → Ended b → Written covered s recording p w b
 
 -- ---- made and grown
 
@@ -143,17 +147,19 @@ abbrev pub readsFrom : Option Stamp → Stamp → Stamp
 readsFrom none p = p
 readsFrom (some q) p = q
 
--- the index of the records xs, and of new ones: its lines with what was written, the first record that is not covered, and the record that
--- line 0 names
+-- the index of the records xs and of new ones: what was written is what a growth adds, and with it these are its lines; the first record that
+-- is not covered, and the one that line 0 names
 pub record Grew (s : Setting) (recording : List ℕ) (xs : List Input) (w : List ℕ) (b : Reached) : Type 0 where
   pub new : List Input
   pub records : Records recording (startStamp .byte) (xs ++ new) (byteAt b)
   pub next : indexOf s (xs ++ new) .next ≡ record { number = b .number; byte = byteAt b }
   pub since : indexOf s (xs ++ new) .since ≡ stampBy (pendingOf (b .receiver .walk))
+  pub added : w ≡ linesText (grownLines s (topOf (indexOf s xs)) (xs ++ new))
   pub lines : linesText (indexOf s (xs ++ new) .lines) ≡ linesText (indexOf s xs .lines) ++ w
 
--- THE STATEMENT for c7index: from the index of the recording's records xs, of none where it is made, until no whole record is at hand
+-- THE STATEMENT for c7index: from the index of the recording's records xs, of none where it is made, until it ended, the
+-- covered records behind it
 abbrev pub Grows : Type 0
 Grows = (s : Setting) (recording : List ℕ) (xs : List Input) (a b : Reached) (w : List ℕ) → Records recording (startStamp .byte) xs (indexOf s xs .next .byte)
     → Begins s (readsFrom (indexOf s xs .since) (indexOf s xs .next)) a → Writes (indexOf s xs .next .number) recording a w b → Counted b
-    → ((r : Record) → atHand Listing (stretch (b .block) (b .unread)) ≡ Whole r → ⊥) → indexOf s xs .next .number ≤ b .number → Grew s recording xs w b
+    → Ended b → indexOf s xs .next .number ≤ b .number → Grew s recording xs w b
