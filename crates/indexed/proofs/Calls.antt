@@ -3,7 +3,7 @@
 use Prim.Native.Nat.{ℕ, zero, suc, _-_, _/_, _%_, _<_}
 use mathlib.Core.Path.{_≡_, refl, sym, ap, _∙_, subst}
 use mathlib.Core.Bool.{Bool, cond}
-use mathlib.Core.Option.{Option, none, some}
+use mathlib.Core.Option.{none, some}
 use mathlib.Core.List.{List, [], _∷_, _++_, map}
 use native.Mathlib.Omega.{arith}
 use lib.ListN.{length, take, drop}
@@ -16,7 +16,6 @@ use Rattle.receiver.specs.declared.Stage.{Stage}
 use Rattle.receiver.specs.declared.Stage.the-variants as S
 use Rattle.receiver.specs.declared.Stamp.{Stamp}
 use Rattle.receiver.specs.declared.Opened.the-variants.{Ready}
-use Rattle.receiver.specs.declared.Unfinished.{Unfinished}
 use Rattle.receiver.specs.declared.Unfinished.the-variants as U
 use Rattle.receiver.specs.declared.walk.Kept.{Kept}
 use Rattle.receiver.specs.declared.walk.Kept.the-variants.{Empty, Of}
@@ -32,6 +31,7 @@ use Rattle.receiver.proofs.Called.{Calls, whole-tp, stamped-steady}
 use Rattle.receiver.proofs.Listening.{tp-leaves, opened-fresh}
 use Rattle.receiver.proofs.Whole.{settingOf, standOf}
 use Rattle.indexed.specs.Index.{startStamp, behind, behindAll, fresh, recordOf, linesOf, standAt, underWay, unfinished, stampIn, sinceOf, indexOf, newLines, newSince}
+use Rattle.indexed.specs.Loop.{stampBy}
 use Rattle.indexed.specs.Packets.{Packet, handed, chosen, first}
 use Rattle.indexed.specs.Statements.{handedAll, handedOut, lineBy, sought}
 use Rattle.indexed.proofs.Gives.{handed-append}
@@ -58,7 +58,7 @@ pub record Came (s : Setting) (p : Stamp) (t : Stand) (xs : List Input) (fs : Li
   pub hands : handed wire fs ≡ handedAll s p t xs
   pub stands : standOf r m ≡ standAt s p t xs
 
-after-tp : (s : Setting) (p : Stamp) (tp : List ℕ) {r : Receiver} {m : List ℕ} {fs : List (Finding wire)} {r′ : Receiver} {m′ : List ℕ}
+pub after-tp : (s : Setting) (p : Stamp) (tp : List ℕ) {r : Receiver} {m : List ℕ} {fs : List (Finding wire)} {r′ : Receiver} {m′ : List ℕ}
     → Ready-for s r m → Calls (λ q. always p) tp r m fs r′ m′ → Ready-for s r′ m′ × (recordOf s p (standOf r m) (tpIn tp) ≡ (fs, standOf r′ m′))
 after-tp s p tp {r} {m} {fs} {r′} {m′} y c =
     let v = tp-leaves c (y .stage) (y .room) in (
@@ -71,7 +71,7 @@ after-tp s p tp {r} {m} {fs} {r′} {m′} y c =
       ap (λ (z : Setting). recordOf z p (standOf r m) (tpIn tp)) (sym (y .setting)) ∙ whole-tp c (stamped-steady p) (y .able) (y .stage) (y .room),
     )
 
-after-gap : (s : Setting) (r q : Receiver) (m : List ℕ) → Ready-for s r m → q ≡ gapOf r → Able q → Ready-for s q m × (standOf q m ≡ fresh)
+pub after-gap : (s : Setting) (r q : Receiver) (m : List ℕ) → Ready-for s r m → q ≡ gapOf r → Able q → Ready-for s q m × (standOf q m ≡ fresh)
 after-gap s r q m y e a = (
   record {
     able = a;
@@ -108,10 +108,6 @@ reads-are s {p} {r} {m} y (gap-on {q = q} {xs = xs} {gs = gs} g l) =
     }
 
 -- ---- what is unfinished
-
-abbrev pub stampBy : Unfinished → Option Stamp
-stampBy U.Nothing = none
-stampBy (U.From g) = some (g .stamp)
 
 headed-on : (g : Place) (ds : List ℕ) (d : ℕ) → underWay (headed g (ds ++ d ∷ [])) ≡ some g
 headed-on g [] d = refl

@@ -1,6 +1,6 @@
 -- GROWN: growing an index gives the one made afresh. The receiver that growing starts stands, before the first new record, where the
 -- one that read all stands, or goes on alike. Assumes nothing.
-use Prim.Native.Nat.{ℕ, suc, _+_, _-_, _<_, _≤_}
+use Prim.Native.Nat.{ℕ, suc, _-_, _<_, _≤_}
 use mathlib.Core.Path.{_≡_, refl, sym, ap, ap₂, _∙_, subst}
 use mathlib.Core.Bool.{Bool, false}
 use mathlib.Core.Option.{Option, none, some}
@@ -23,7 +23,7 @@ use Rattle.indexed.specs.Index.{startStamp, behind, behindAll, fresh, li
 use Rattle.indexed.specs.Packets.{Packet, handed}
 use Rattle.indexed.specs.Statements.{handedAll, lineBy, Listed, Grown}
 use Rattle.indexed.proofs.Ways as W
-use Rattle.indexed.proofs.Ways.{Stand, run, gives}
+use Rattle.indexed.proofs.Ways.{Stand, run}
 use Rattle.indexed.proofs.Facts.{InWays, in-way, InStand, in-run}
 use Rattle.indexed.proofs.Near.{Rests, Aged, rests-run}
 use Rattle.indexed.proofs.Restart.{none-is, frameFrom, heldFrom, pending, in-pending, restart, Same, same-equal, same-fresh, same-gives, same-next, same-pending}
@@ -177,13 +177,13 @@ grown s xs ys =
     (ap (λ (l : List Line). lines ++ l) (lines-grow s xs ys) ∙ sym (lines-append s xs ys))
 
 -- the record that is named is one of the recording's, so that 0 can stand for none
-pub since-positive : (s : Setting) (xs : List Input) (p : Stamp) → indexOf s xs .since ≡ some p → 1 ≤ p .number
+pub since-own : (s : Setting) (xs : List Input) (p : Stamp) → indexOf s xs .since ≡ some p → Own startStamp xs p
 unfolding indexOf
-since-positive s xs p e = go (pendingIn (At s xs)) refl e
+since-own s xs p e = go (pendingIn (At s xs)) refl e
   where
-    go : (o : Option Place) → pendingIn (At s xs) ≡ o → stampIn o ≡ some p → 1 ≤ p .number
+    go : (o : Option Place) → pendingIn (At s xs) ≡ o → stampIn o ≡ some p → Own startStamp xs p
     go none z e = none-is e
-    go (some q) z e =
-        let i = pending-own s xs q z .number-is in
-        let j : q .stamp ≡ p = cc in
-        subst (λ (x : Stamp). 1 ≤ x .number) j (omega arith)
+    go (some q) z e = let j : q .stamp ≡ p = cc in subst (Own startStamp xs) j (pending-own s xs q z)
+
+pub since-positive : (s : Setting) (xs : List Input) (p : Stamp) → indexOf s xs .since ≡ some p → 1 ≤ p .number
+since-positive s xs p e = let i = since-own s xs p e .number-is in omega arith

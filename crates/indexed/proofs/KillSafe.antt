@@ -25,11 +25,11 @@ use Rattle.indexed.specs.File.{linesText, numberOf, byteOf, topWith, top
 use Rattle.indexed.proofs.Records.{behind-append}
 use Rattle.indexed.proofs.Grown.{grown, since-positive}
 
-lines-append : (xs ys : List Line) → linesText (xs ++ ys) ≡ linesText xs ++ linesText ys
+pub lines-append : (xs ys : List Line) → linesText (xs ++ ys) ≡ linesText xs ++ linesText ys
 lines-append [] ys = refl
 lines-append (x ∷ xs) ys = ap (λ (l : List ℕ). lineText x ++ l) (lines-append xs ys) ∙ sym (append-assoc (lineText x) (linesText xs) (linesText ys))
 
-number-behind : (xs : List Input) (p : Stamp) → behindAll p xs .number ≡ p .number + length xs
+pub number-behind : (xs : List Input) (p : Stamp) → behindAll p xs .number ≡ p .number + length xs
 number-behind [] p = omega arith
 number-behind (x ∷ xs) p = let e = number-behind xs (behind p x) in omega arith
 
@@ -69,7 +69,7 @@ module _ (s : Setting) where
 
   -- ---- a growth from the index of xs
 
-  more : List Input → List Input → List Line
+  unfoldable pub more : List Input → List Input → List Line
   more xs ys = newLines s (ix xs .next) (ix xs .since) xs ys
 
   since-is : (xs : List Input) → sinceIn (zero-of xs) ≡ ix xs .since
@@ -85,7 +85,7 @@ module _ (s : Setting) where
       ap₂ (λ (o : Option Stamp) (n : ℕ). f o (take n (xs ++ ys)) (drop n (xs ++ ys))) (since-is xs) (covered-is xs)
       ∙ ap₂ (λ (a b : List Input). f (ix xs .since) a b) (take-at xs ys (length xs) refl) (drop-at xs ys (length xs) refl)
 
-  lines-there : (xs ys : List Input) → grownLines s (zero-of xs) (xs ++ ys) ≡ more xs ys
+  pub lines-there : (xs ys : List Input) → grownLines s (zero-of xs) (xs ++ ys) ≡ more xs ys
   unfolding more
   lines-there xs ys = there (λ (o : Option Stamp) (a b : List Input). newLines s (ix xs .next) o a b) xs ys
 

@@ -24,3 +24,11 @@ pub mod KillSafe
 pub mod Examples
 -- and the calls
 pub mod Calls
+-- the loop that runs
+pub mod Adding
+pub mod Finds
+pub mod Between
+pub mod Recorded
+pub mod Loop
+pub mod Growing
+pub mod Contracts
