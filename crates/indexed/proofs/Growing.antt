@@ -45,9 +45,6 @@ module _ (s : Setting) (recording : List ℕ) (xs : List Input) where
   abbrev covered : ℕ
   covered = next .number
 
-  next-number : covered ≡ 1 + length xs
-  next-number = number-behind xs startStamp
-
   -- what a loop from there has read
   record Splits (since : Option Stamp) (w : List ℕ) (b : Reached) : Type 0 where
     new : List Input
@@ -128,10 +125,6 @@ grew s recording xs w b z =
           ∙ lines-append (indexOf s xs .lines) (newLines s (behindAll startStamp xs) (indexOf s xs .since) xs (z .new))
           ∙ ap (λ (l : List ℕ). linesText (indexOf s xs .lines) ++ l) (sym (z .lines));
     }
-
-next-is : (s : Setting) (xs : List Input) → indexOf s xs .next ≡ behindAll startStamp xs
-unfolding indexOf
-next-is s xs = refl
 
 splits : (s : Setting) (recording : List ℕ) (xs : List Input) (w : List ℕ) (b : Reached) (o : Option Stamp) → indexOf s xs .since ≡ o
     → Records recording (startStamp .byte) xs (behindAll startStamp xs .byte) → behindAll startStamp xs .number ≤ b .number

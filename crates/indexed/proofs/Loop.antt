@@ -112,8 +112,8 @@ module _ (covered : ℕ) (s : Setting) (recording : List ℕ) (p : Stamp) where
           behind-append (t .inputs) (x ∷ []) p ∙ ap (λ (q : Stamp). behind q x) (t .next) ∙ ap₂ (λ (i j : ℕ). record { number = i; byte = j }) (sym en) (sym eb)
 
       module _ (n : ℕ) (whole : atHand Listing u ≡ Whole (Packet n)) (r : Receiver) (m : List ℕ) (o : Block) where
-        abbrev by-block : Stamp → List ℕ → Type 0
-        by-block q d = Pauses (Index covered) q d (b .receiver) (b .room) (b .out) r m o
+        abbrev Pausing : Stamp → List ℕ → Type 0
+        Pausing q d = Pauses (Index covered) q d (b .receiver) (b .room) (b .out) r m o
 
         -- the stamp, and the TP
         stamp-is : gone + b .from < 0xFFFFFFFFFFFFFFFF → stampOf gone (b .number) (b .from) ≡ here b
@@ -123,8 +123,8 @@ module _ (covered : ℕ) (s : Setting) (recording : List ℕ) (p : Stamp) where
             → Moved put (b .out) (record { from = b .from; number = b .number; receiver = r; room = m; out = o })
         pause-record k h =
             let same =
-            subst (λ (d : List ℕ). by-block (here b) d) (data-there recording block gone (b .from) till (t .shows) (Packet n) whole)
-            (subst (λ (q : Stamp). by-block q (dataIn (Packet n) u)) (stamp-is k) h) in
+            subst (λ (d : List ℕ). Pausing (here b) d) (data-there recording block gone (b .from) till (t .shows) (Packet n) whole)
+            (subst (λ (q : Stamp). Pausing q (dataIn (Packet n) u)) (stamp-is k) h) in
             let g = goes covered s p (amid-at n whole) same in
             record {
               text = g .text;
@@ -297,9 +297,6 @@ module _ (covered : ℕ) (s : Setting) (recording : List ℕ) (p : Stamp) where
         stands = subst⁻¹ (λ (l : List ℕ). Stands (w ++ l) (emptied d)) held (record { inputs = t .inputs; records = t .records; next = t .next; shows = t .shows; now = ⊎-elim (λ x. inl x) (λ x. inr (record { size = x .size; at-hand = x .at-hand; amid = x .amid })) (t .now) });
         none-held = refl;
       }
-
-  abbrev outcome : List ℕ → Reached → Type 0
-  outcome w b = Written covered s recording p w b ⊎ Within covered s recording p w b
 
   module _ {w : List ℕ} {b : Reached} (t : Stands w b) where
     listed : Between covered s p (t .inputs) w (b .receiver) (b .room) → Written covered s recording p w b
