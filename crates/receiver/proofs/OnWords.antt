@@ -36,7 +36,7 @@ use Rattle.receiver.specs.declared.walk.Phase.{Phase}
 use Rattle.receiver.specs.declared.walk.Phase.the-variants.{Lost, Head, Body}
 use Rattle.receiver.specs.declared.walk.Walk.{Walk}
 use Rattle.receiver.specs.Call.{Gave, Gives, callOf, countIn}
-use Rattle.receiver.specs.InSwift.{BehindMet, Done, DueAs, GoesAs, LaneAs, Lent, LowPartAs, OnAs, PartAs, PartBy, SpotAs, Stands, Suits, SwiftAs, TidyMet, countBy, firstSpot, madeOf, plainSpot}
+use Rattle.receiver.specs.InSwift.{BehindMet, Done, DueAs, GoesAs, LaneAs, Lent, LowPartAs, OnAs, PartAs, PartBy, SpotAs, Stands, Suits, SwiftAs, TidyMet, ToldAs, countBy, firstSpot, madeOf, plainSpot}
 use Rattle.receiver.specs.Lanes.{AheadAs, Drops, FirstAs, Lends, LowAs, MetAs, OutAs, Tidy, callBy, completeOf, endsIn, inLane, lossEnd, stepTo, walkIn}
 use Rattle.receiver.specs.Lows.{lowsOf}
 use Rattle.receiver.specs.Pieces.{noneOf, topOf}
@@ -457,6 +457,34 @@ module _ (r : Receiver) (k : ℕ) (l : Lane) (tp w₀ w : List ℕ) (s : Spot) (
 
   pub low-bounds : (o i : ℕ) → s ≡ T.Low o i → (4 ≤ i) × (i ≤ length tp) × (o < 2048)
   low-bounds o i e = let f = spotted (T.Low o i) e (replicate (r .limit) 0) (length-replicate {A = ℕ} (r .limit) 0) in (f .1, f .2, f .3)
+
+-- a low-latency part that is gone on with
+pub again-gives : (ws : List ℕ) (l : Lane) (tp w : List ℕ) → fitb ws ≡ true → getD ws 5 0 ≡ 1 → length tp ≡ receiverIn ws .size → Stands l (receiverIn ws)
+    → (f : Find) (n from : ℕ) (more : Bool) (end : ℕ) → lowsOf tp (getD ws 4 0) ≡ W.Gives f n from more end
+    → w ≡ wordsOf (inLane (receiverIn ws) (getD ws 3 0) l (cond more (Low (getD ws 6 0)) (Due (getD ws 6 0))) end)
+    → Bytes (inLane (receiverIn ws) (getD ws 3 0) l (cond more (Low (getD ws 6 0)) (Due (getD ws 6 0))) end)
+    → ToldAs (S.Gives f (record { repaired = n; at = placeAt (ownOf (getD ws 3 0)) from })) (receiverIn ws) tp ws w
+again-gives ws l tp w fit z whole s f n from more end e p b =
+    let r = receiverIn ws in
+    let k = getD ws 3 0 in
+    let o = getD ws 6 0 in
+    let at = getD ws 4 0 in
+    let count = count-later ws (λ (x : getD ws 5 0 ≡ 0). omega (arith, x, z)) in
+    let goes = goes-low ws l tp fit s whole z in
+    let bounds = low-bounds r k l tp ws w (T.Low o at) count goes o at refl in
+    part-low r k l tp ws w (T.Low o at) count goes o at refl (P.Told (S.Gives f (record { repaired = n; at = placeAt (ownOf k) from })))
+    (low-gives r k l o at tp ws w (fits ws fit .able .size) (s .1) whole (bounds .0) (bounds .1) (bounds .2) f n from more end e p b)
+
+-- with the room that is lent
+pub told-as : (r : Receiver) (tp m w₀ w : List ℕ) → length m ≡ r .limit → (q x : Swift) → q ≡ x → ToldAs q r tp w₀ w → SwiftAs x r w₀ tp m w m
+told-as r tp m w₀ w full q x e t = subst (λ (y : Swift). SwiftAs y r w₀ tp m w m) e (t m full)
+
+pub told-same : (r : Receiver) (tp m w₀ w : List ℕ) → length m ≡ r .limit → (q : Swift) → q ≡ S.Other → ToldAs q r tp w₀ w → w ≡ w₀
+told-same r tp m w₀ w full q e t = told-as r tp m w₀ w full q S.Other e t .0
+
+-- a call on the same words
+pub swift-on : (ws v : List ℕ) → v ≡ ws → (q : Swift) (tp m₀ w m : List ℕ) → SwiftAs q (receiverIn v) v tp m₀ w m → SwiftAs q (receiverIn ws) ws tp m₀ w m
+swift-on ws v e q tp m₀ w m d = subst (λ (x : List ℕ). SwiftAs q (receiverIn x) x tp m₀ w m) e d
 
 -- ---- all of it
 

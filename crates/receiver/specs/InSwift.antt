@@ -157,6 +157,10 @@ abbrev pub LowPartAs : Part → Receiver → ℕ → Lane → ℕ → ℕ → Li
 LowPartAs q r k l o at tp w₀ w =
     (m : List ℕ) → length m ≡ r .limit → callBy (ownOf k) (inLane r k l (Low o) at) tp m ≡ callOf r tp m → PartBy q r k l tp m w₀ w
 
+-- the call is done or left as it was, whatever room is lent
+abbrev pub ToldAs : Swift → Receiver → List ℕ → List ℕ → List ℕ → Type 0
+ToldAs q r tp w₀ w = (m : List ℕ) → length m ≡ r .limit → SwiftAs q r w₀ tp m w m
+
 -- a TP and a room of b's settings
 pub record Suits (b : Receiver) (tp m : List ℕ) : Type 0 where
   pub size : 16 ≤ b .size

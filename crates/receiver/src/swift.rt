@@ -11,7 +11,7 @@ ghost use Rattle.receiver.specs.Place.{ownOf, startOf};
 ghost use Rattle.receiver.specs.Pieces.{noneOf, topOf};
 ghost use Rattle.receiver.specs.Words.{Bytes, fitb, receiverIn, stageWords, wordsOf};
 ghost use Rattle.receiver.specs.Lanes.{Tidy, inLane};
-ghost use Rattle.receiver.specs.InSwift.{Lent, Busy, BehindAs, handsOf, SwiftAs, madeOf, betweenAt, Stands, LaneAs, countBy, firstSpot, plainSpot, GoesAs, PartAs, LowPartAs, DueAs, OnAs, TidyMet, BehindMet};
+ghost use Rattle.receiver.specs.InSwift.{Lent, Busy, BehindAs, handsOf, SwiftAs, madeOf, betweenAt, Stands, LaneAs, countBy, firstSpot, plainSpot, GoesAs, PartAs, LowPartAs, ToldAs, DueAs, OnAs, TidyMet, BehindMet};
 use crate::About;
 use crate::Find;
 use crate::Place;
@@ -674,6 +674,35 @@ fn laned(w: &mut [u64; 23], lane: Lane, tp: &[u8], room: &mut [u8]) -> Swift
     }
 }
 
+// The next find of the low-latency part, in which the words stand. The lane is asked for behind the walk, so that it isn't carried through it.
+fn low_again(w: &mut [u64; 23], tp: &[u8]) -> Swift
+    requires { ⌜ (fitb (now w) ≡ true) × (getD (now w) 5 0 ≡ 1) × (length (now tp) ≡ receiverIn (now w) .size) ⌝ }
+    ensures { λ q. ⌜ ToldAs q (receiverIn (now (w .entry))) (now (tp .entry)) (now (w .entry)) (now (w .exit)) ⌝ }
+{
+    let Lows::Gives {
+        find,
+        repaired,
+        from,
+        more,
+        end,
+    } = lane::lows(tp, w[4] as usize)
+    else {
+        return Swift::Other;
+    };
+    let lane = lane_in(w);
+    if let Lane::Other = lane {
+        return Swift::Other;
+    }
+    let count = w[3];
+    let stage = low_stage(more, w[6] as usize);
+    put_lane(w, count, lane, stage, end);
+    let about = About {
+        repaired,
+        at: stamps::of(stamps::own(count), from),
+    };
+    Swift::Gives { find, about }
+}
+
 // The next find of the TP.
 pub fn next(w: &mut [u64; 23], tp: &[u8], room: &mut [u8]) -> Swift
     requires { ⌜ fitb (now w) ≡ true ⌝ }
@@ -684,6 +713,11 @@ pub fn next(w: &mut [u64; 23], tp: &[u8], room: &mut [u8]) -> Swift
     }
     if tp.len() as u64 != w[0] {
         return Swift::Other;
+    }
+    if w[5] == 1 {
+        if let Swift::Gives { find, about } = low_again(w, tp) {
+            return Swift::Gives { find, about };
+        }
     }
     let lane = lane_in(w);
     if let Lane::Other = lane {

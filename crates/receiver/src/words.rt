@@ -269,12 +269,16 @@ fn is_begun(offset: u64, at: u64) -> bool
 fn is_staged(sort: u64, offset: u64, at: u64) -> bool
     ensures { λ r. ⌜ r ≡ stagedb sort offset at ⌝ }
 {
-    match sort {
-        0 => true,
-        1 => is_begun(offset, at),
-        2 => is_begun(offset, at),
-        _ => sort == 3,
+    if sort == 0 {
+        return true;
     }
+    if sort == 3 {
+        return true;
+    }
+    if 3 < sort {
+        return false;
+    }
+    is_begun(offset, at)
 }
 
 fn is_within(len: u64, n: u64, cap: u64) -> bool
@@ -289,11 +293,13 @@ fn is_within(len: u64, n: u64, cap: u64) -> bool
 fn is_roomy(cap: u64, sort: u64, len: u64, n: u64) -> bool
     ensures { λ r. ⌜ r ≡ roomyb cap sort len n ⌝ }
 {
-    match sort {
-        0 => true,
-        1 => is_within(len, n, cap),
-        _ => false,
+    if sort == 0 {
+        return true;
     }
+    if sort != 1 {
+        return false;
+    }
+    is_within(len, n, cap)
 }
 
 // Above every number of so many bytes; of a header's six or more there is none.
@@ -324,25 +330,29 @@ fn is_under_way(stage: u64, left: u64) -> bool
 fn is_phased(stage: u64, sort: u64, a: u64, b: u64, left: u64) -> bool
     ensures { λ r. ⌜ r ≡ phasedb stage sort a b left ⌝ }
 {
-    match sort {
-        0 => true,
-        1 => b < bound(a),
-        2 => stage == 3,
-        3 => is_under_way(stage, left),
-        _ => false,
+    if sort == 1 {
+        return b < bound(a);
     }
+    if sort == 0 {
+        return true;
+    }
+    if sort == 3 {
+        return is_under_way(stage, left);
+    }
+    if sort == 2 {
+        return stage == 3;
+    }
+    false
 }
 
 // The bytes that an EP under way still brings.
 fn left_in(sort: u64, left: u64) -> u64
     ensures { λ r. ⌜ r ≡ leftIn sort left ⌝ }
 {
-    match sort {
-        0 => 0,
-        1 => 0,
-        2 => 0,
-        _ => left,
+    if sort < 3 {
+        return 0;
     }
+    left
 }
 
 pub fn is_fit(w: &[u64; 23]) -> bool
