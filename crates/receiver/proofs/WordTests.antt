@@ -5,7 +5,7 @@ use mathlib.Core.Path.{_≡_, refl, sym}
 use native.Mathlib.Omega.{arith}
 use lib.Dec.{leb, eqb}
 use borrow.Author.Tests.{le-leb, lt-leb, leb-true, leb-false, eq-eqb, ne-eqb, eqb-false}
-use Rattle.receiver.specs.Words.{begunb, leftIn, stagedb}
+use Rattle.receiver.specs.Words.{begunb, leftIn, phasedb, stagedb}
 
 pub shift-le : (n k c : ℕ) → k ≤ c → leb n (c - k) ≡ leb (k + n) c
 shift-le n k c h = go (leb (k + n) c) refl
@@ -54,6 +54,19 @@ module _ (s : ℕ) where
       go true u e f = refl
       go false true e f = refl
       go false false e f = let two : s ≡ 2 = omega (arith, eqb-false s 0 e, eqb-false s 1 f) in rw (eq-eqb s 2 two)
+
+  pub phased-past : (stage a b left : ℕ) → 3 < s → false ≡ phasedb stage s a b left
+  unfolding phasedb
+  phased-past stage a b left h =
+      let x : eqb s 0 ≡ false = ne-eqb s 0 (λ (e : s ≡ 0). omega arith) in
+      let y : eqb s 1 ≡ false = ne-eqb s 1 (λ (e : s ≡ 1). omega arith) in
+      let z : eqb s 2 ≡ false = ne-eqb s 2 (λ (e : s ≡ 2). omega arith) in
+      let w : eqb s 3 ≡ false = ne-eqb s 3 (λ (e : s ≡ 3). omega arith) in
+      rw (x, y, z, w)
+
+  pub phased-judged : (stage a b left : ℕ) → (s ≡ 0 → ⊥) → (s ≡ 1 → ⊥) → (s ≡ 3 → ⊥) → s ≤ 3 → eqb stage 3 ≡ phasedb stage s a b left
+  unfolding phasedb
+  phased-judged stage a b left x y w h = let two : s ≡ 2 = omega (arith, x, y, w) in rw (ne-eqb s 0 x, ne-eqb s 1 y, eq-eqb s 2 two)
 
   pub left-all : (n : ℕ) → 3 ≤ s → n ≡ leftIn s n
   unfolding leftIn

@@ -330,19 +330,19 @@ fn is_under_way(stage: u64, left: u64) -> bool
 fn is_phased(stage: u64, sort: u64, a: u64, b: u64, left: u64) -> bool
     ensures { λ r. ⌜ r ≡ phasedb stage sort a b left ⌝ }
 {
+    if sort == 0 {
+        return true;
+    }
     if sort == 1 {
         return b < bound(a);
     }
-    if sort == 0 {
-        return true;
+    if 3 < sort {
+        return false;
     }
     if sort == 3 {
         return is_under_way(stage, left);
     }
-    if sort == 2 {
-        return stage == 3;
-    }
-    false
+    stage == 3
 }
 
 // The bytes that an EP under way still brings.
