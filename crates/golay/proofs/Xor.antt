@@ -19,7 +19,7 @@ use lib.Seq.{drop-cons}
 use native.Mathlib.Numerals.{add-one, one-add}
 use Rattle.golay.specs.Golay.{chosen}
 
-pub bit : (n : ℕ) → (n % 2 ≡ 0) ⊎ (n % 2 ≡ 1)
+bit : (n : ℕ) → (n % 2 ≡ 0) ⊎ (n % 2 ≡ 1)
 bit n = go (n % 2) (mod-lt n (zero-lt-suc 1))
   where
     go : (x : ℕ) → x < 2 → (x ≡ 0) ⊎ (x ≡ 1)

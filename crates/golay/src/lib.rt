@@ -6,11 +6,8 @@ ghost use Rattle.golay.specs.Answers.{Decodes, Mends, endByte, endFlips,
 
 mod checks;
 mod corrections;
-mod near;
 pub mod pair;
 mod parities;
-
-pub use near::is_near;
 
 // A 24-bit word read: the number of the code word within three flips, how many flips, and a one at each flipped bit;
 // or beyond repair.

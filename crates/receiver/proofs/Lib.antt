@@ -54,7 +54,11 @@ pub mod Serially
 pub mod Laning
 pub mod LaneAhead
 pub mod LaneOut
+pub mod TrackOut
 pub mod LaneFirst
 pub mod Laned
+pub mod Tracked
+pub mod TrackAhead
 pub mod PassingOver
+pub mod TrackOver
 pub mod OnWords

@@ -7,15 +7,13 @@ use mathlib.Core.Option.{some}
 use mathlib.Core.Logic.{inl, inr}
 use Prim.Native.Nat.{ℕ, _+_, _-_, _%_, _/_, _^_, _≤_, _<_, min}
 use native.Mathlib.Omega.{arith}
-use lib.Bits.{bitXor, xor-self}
-use lib.Count.{onesIn}
 use lib.Dec.{eqb, leb, lit<}
 use lib.ListN.{drop, getD, length, length-drop, take}
 use lib.Seq.{drop-drop, getD-drop, take-add}
 use borrow.Author.Tests.{eq-eqb, eqb-true, le-ltb, lt-leb}
 use Rattle.digits.specs.Digits.{number}
 use Rattle.digits.proofs.Laws.{number-append}
-use Rattle.golay.specs.Golay.{chosen, codeWord, distance, weight}
+use Rattle.golay.specs.Golay.{chosen, codeWord, distance}
 use Rattle.queue.specs.Ring.{copied}
 use denote.Enum.Declared.{tagOf}
 use types.Run.{OneOf}
@@ -23,7 +21,7 @@ use Rattle.receiver.proofs.walk.Phase.{the-type}
 use Rattle.wire.specs.declared.Header.{Header}
 use Rattle.wire.specs.Reading.{headerIn, streamOf, tpNumberIn, versionOf}
 use Rattle.wire.specs.Wire.{firstNumber}
-use Rattle.wire.proofs.Laws.{code-lt, header-back, headerFlips, no-start, number-back}
+use Rattle.wire.proofs.Laws.{code-lt, header-back, headerFlips, near-itself, no-start, number-back}
 use Rattle.receiver.specs.declared.Place.{Place}
 use Rattle.receiver.specs.declared.Receiver.{Receiver}
 use Rattle.receiver.specs.declared.Stage.{Stage}
@@ -155,11 +153,6 @@ three-at at tp l =
     first (a ∷ b ∷ []) h = absurd (omega arith)
     first (a ∷ b ∷ c ∷ l) h = refl
 
--- an intact word is at no distance from itself
-near-itself : (w : ℕ) → distance w w ≤ 3
-unfolding distance weight onesIn
-near-itself w = let z : onesIn 24 (bitXor w w) ≡ 0 = ap (onesIn 24) (xor-self w) in omega arith
-
 near-zero : distance 0 (codeWord 0) ≤ 3
 unfolding codeWord chosen
 near-zero = near-itself 0
@@ -169,7 +162,7 @@ module _ (tp : List ℕ) (long : 10 ≤ length tp) (zeros : sixOf tp ≡ 0) wher
   zero-word i l a b c = sym (three-at i tp l) ∙ rw (a, b, c) refl
 
   -- no low-latency part, and an EP begins at once
-  starts-at-once : tpNumberIn (wordAt 1 tp) ≡ some 0
+  pub starts-at-once : tpNumberIn (wordAt 1 tp) ≡ some 0
   unfolding tpNumberIn
   starts-at-once =
       rw (zero-word 1 (omega arith) (omega (arith, zeros)) (omega (arith, zeros)) (omega (arith, zeros))) (number-back 0 0 (lit< tt) near-zero)
@@ -198,7 +191,7 @@ module _ (tp : List ℕ) (long : 10 ≤ length tp) (zeros : sixOf tp ≡ 0) wher
         let all : n % 4096 ≡ n = omega arith in
         header-back 0 0 n (lit< tt) (lit< tt) (omega arith) w (rw (upper, none) near-zero) (rw (lower, all) (near-itself (codeWord n)))
 
-    fill-all : Bytes tp → Skips tp 4 (length tp)
+    pub fill-all : Bytes tp → Skips tp 4 (length tp)
     fill-all bytes =
         let h : Header = record { content = 0; fragment = 0; size = n; flips = headerFlips 0 0 n w } in
         let e : EpAt Fill tp 4 h = record { stands = record { six = omega arith; read = fill-header }; kind = fill-kind h refl } in
@@ -216,12 +209,12 @@ fill-if p n w tp e z long short = by (eqb (number 0 (getD tp 7 0 ∷ getD tp 8 0
         subst (λ (q : Phase). FillsAll q tp) (sym e)
         (z, short, sym (three-at 7 tp (omega arith)) ∙ eqb-true (number 0 (getD tp 7 0 ∷ getD tp 8 0 ∷ getD tp 9 0 ∷ [])) (codeWord (length tp - 10)) f)
 
-pub startless-if : (p : Phase) (tp : List ℕ) → p ≡ Lost → StartlessIf (leb (distance (wordAt 1 tp) (codeWord 2047)) 3) p tp
-startless-if p tp e = by (leb (distance (wordAt 1 tp) (codeWord 2047)) 3) refl
+pub startless-if : (p : Phase) (tp : List ℕ) → p ≡ Lost → StartlessIf (eqb (wordAt 1 tp) (codeWord 2047)) p tp
+startless-if p tp e = by (eqb (wordAt 1 tp) (codeWord 2047)) refl
   where
-    by : (x : Bool) → leb (distance (wordAt 1 tp) (codeWord 2047)) 3 ≡ x → StartlessIf x p tp
+    by : (x : Bool) → eqb (wordAt 1 tp) (codeWord 2047) ≡ x → StartlessIf x p tp
     by false f = omega arith
-    by true f = subst (λ (q : Phase). Startless q tp) (sym e) f
+    by true f = subst (λ (q : Phase). Startless q tp) (sym e) (eqb-true (wordAt 1 tp) (codeWord 2047) f)
 
 pub fill-void : (x : Bool) (p : Phase) (tp : List ℕ) → sixOf tp ≡ 0 → FillIf x p tp → VoidIf x p tp
 fill-void false p tp z f = omega arith
@@ -271,16 +264,16 @@ over-if r tp room x able bytes long void told-so s k whole full stream = by (eqb
     by true e = (full, λ m f. in-phase (r .walk .phase) refl (subst (λ (y : Bool). VoidIf y (r .walk .phase) tp) told-so void) e m (f ∙ full))
 
 pub data-if : (r : Receiver) (tp : List ℕ) (room : ℕ) (h : Header) (left c e : ℕ) (g : Place) (len : ℕ) → Able r → Bytes tp → 10 ≤ length tp
-    → r .walk .phase ≡ Body h left → r .walk .kept ≡ Of c e g len → length tp - 4 < left → leb (distance (wordAt 1 tp) (codeWord 2047)) 3 ≡ true
+    → r .walk .phase ≡ Body h left → r .walk .kept ≡ Of c e g len → length tp - 4 < left → eqb (wordAt 1 tp) (codeWord 2047) ≡ true
     → r .stage ≡ Fresh → length tp ≡ r .size → room ≡ r .limit → streamOf (getD tp 0 0) ≡ r .stream → DataIf (eqb (versionOf (getD tp 0 0)) 0) r tp room
-data-if r tp room h left c e g len able bytes long p k more near s whole full stream = by (eqb (versionOf (getD tp 0 0)) 0) refl
+data-if r tp room h left c e g len able bytes long p k more said s whole full stream = by (eqb (versionOf (getD tp 0 0)) 0) refl
   where
     by : (y : Bool) → eqb (versionOf (getD tp 0 0)) 0 ≡ y → DataIf y r tp room
     by false z = omega arith
     by true z = (
       full,
       record { payload = omega arith; more = subst (LeftOver (length tp - 4)) (sym p) more; kept = subst Keeping (sym k) (omega arith) },
-      λ m f. data-taken r tp able whole s m (f ∙ full) h left c e g len p k more (says (r .stream) tp 2047 stream z (no-start (wordAt 1 tp) near)) bytes,
+      λ m f. data-taken r tp able whole s m (f ∙ full) h left c e g len p k more (says (r .stream) tp 2047 stream z (no-start (wordAt 1 tp) (eqb-true (wordAt 1 tp) (codeWord 2047) said))) bytes,
     )
 
 -- ---- data that are taken

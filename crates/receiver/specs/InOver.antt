@@ -4,10 +4,9 @@ use Prim.Native.Nat.{ℕ, _+_, _-_, _*_, _≤_}
 use mathlib.Core.Path.{_≡_}
 use mathlib.Core.Bool.{Bool, true, false}
 use mathlib.Core.List.{List}
-use lib.Dec.{leb}
 use lib.ListN.{length, take, drop, getD}
 use Rattle.digits.specs.Digits.{number}
-use Rattle.golay.specs.Golay.{codeWord, distance}
+use Rattle.golay.specs.Golay.{codeWord}
 use Rattle.receiver.specs.declared.walk.Phase.{Phase}
 use Rattle.receiver.specs.declared.walk.Phase.the-variants.{Lost, Head, Judged, Body}
 
@@ -31,9 +30,9 @@ abbrev pub FillIf : Bool → Phase → List ℕ → Type 0
 FillIf false p tp = 0 ≤ 0
 FillIf true p tp = FillsAll p tp
 
--- out of step, three bytes are within three flips of the code word of 2047
+-- out of step, three bytes are the code word of 2047
 abbrev pub Startless : Phase → List ℕ → Type 0
-Startless Lost tp = leb (distance (wordAt 1 tp) (codeWord 2047)) 3 ≡ true
+Startless Lost tp = wordAt 1 tp ≡ codeWord 2047
 Startless (Head n w) tp = 1 ≤ 0
 Startless (Judged h) tp = 1 ≤ 0
 Startless (Body h n) tp = 1 ≤ 0

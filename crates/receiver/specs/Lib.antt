@@ -19,6 +19,8 @@ pub mod Pieces
 pub mod Turn
 -- a receiver's lanes: what loops over TPs carry
 pub mod Lanes
+-- a lane as plain numbers
+pub mod Tracks
 -- a TP that one call is done with
 pub mod Over
 -- a receiver as words, and back
@@ -29,6 +31,7 @@ pub mod InStride
 pub mod InSwift
 pub mod InSeries
 pub mod InLanes
+pub mod InTracks
 pub mod InOutset
 pub mod InStages
 pub mod InOver

@@ -19,6 +19,7 @@ mod stages;
 mod stamps;
 mod stride;
 mod swift;
+pub mod track;
 mod walk;
 pub mod words;
 

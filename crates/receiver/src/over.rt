@@ -15,7 +15,7 @@ use crate::walk::Phase;
 use crate::walk::Walk;
 
 // Six bytes behind a TP's first one as a number, least significant first: all of them are 0 if it is. The compiler reads them at once.
-fn six(tp: &[u8]) -> u64
+pub fn six(tp: &[u8]) -> u64
     requires { ⌜ 7 ≤ length (now tp) ⌝ }
     ensures { λ q. ⌜ q ≡ sixOf (now (tp .entry)) ⌝ }
 {
@@ -44,7 +44,7 @@ fn is_fill(phase: Phase, tp: &[u8]) -> bool
     digits::from_three(tp[7], tp[8], tp[9]) == golay::encode((tp.len() - 10) as u16)
 }
 
-// Out of step, whether no EP begins in a TP without low-latency part.
+// Out of step, whether an intact word says that a TP has no low-latency part and that no EP begins in it.
 fn is_startless(phase: Phase, tp: &[u8]) -> bool
     requires { ⌜ 4 ≤ length (now tp) ⌝ }
     ensures { λ q. ⌜ StartlessIf q phase (now (tp .entry)) ⌝ }

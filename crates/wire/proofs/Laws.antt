@@ -7,11 +7,13 @@ use mathlib.Core.List.{List, [], _∷_, _++_}
 use Prim.Native.Nat.{ℕ, zero, suc, _+_, _*_, _/_, _%_, _^_, _≤_, _<_}
 use native.Mathlib.Nat.{mod-lt, mod-eq-of-lt}
 use native.Mathlib.Omega.{arith}
+use lib.Bits.{bitXor, xor-self}
+use lib.Count.{onesIn}
 use lib.Dec.{leb, lit<}
 use lib.ListN.{length, length-append}
 use Rattle.digits.specs.Digits.{digits, number}
 use Rattle.digits.proofs.Laws.{length-digits, number-append, number-digits}
-use Rattle.golay.specs.Golay.{codeWord, distance, placesTo}
+use Rattle.golay.specs.Golay.{chosen, codeWord, distance, placesTo, weight}
 use borrow.Author.Tests.{leb-true}
 use Rattle.golay.specs.declared.Decoded.{Decoded}
 use Rattle.golay.specs.declared.Decoded.the-variants.{Word, Beyond}
@@ -50,6 +52,11 @@ code-lt n = omega (arith, parity-lt n)
 pub word-number : (n : ℕ) → number 0 (word n) ≡ codeWord n
 unfolding word
 word-number n = number-digits 3 (codeWord n) (code-lt n)
+
+-- an intact word is at no distance from itself
+pub near-itself : (w : ℕ) → distance w w ≤ 3
+unfolding distance weight onesIn
+near-itself w = let z : onesIn 24 (bitXor w w) ≡ 0 = ap (onesIn 24) (xor-self w) in omega arith
 
 -- within three flips of the code word of n
 module _ (w n : ℕ) (small : n < 4096) (near : distance w (codeWord n) ≤ 3) where
@@ -125,10 +132,15 @@ pub tp-word-back : (w : ℕ) (low : Bool) (o : ℕ) → distance w (codeWord (of
 unfolding tpNumberIn
 tp-word-back w low o near = number-back w (offsetNumber low o) (offset-lt low o) near
 
--- three bytes within three flips of the code word of 2047 hold 2047: no low-latency part, and no EP begins
-pub no-start : (w : ℕ) → leb (distance w (codeWord 2047)) 3 ≡ true → tpNumberIn w ≡ some 2047
+-- the code word of 2047 holds 2047: no low-latency part, and no EP begins
+pub no-start : (w : ℕ) → w ≡ codeWord 2047 → tpNumberIn w ≡ some 2047
 unfolding tpNumberIn
-no-start w near = number-back w 2047 (lit< tt) (leb-true (distance w (codeWord 2047)) 3 near)
+no-start w e = rw e (number-back (codeWord 2047) 2047 (lit< tt) (near-itself (codeWord 2047)))
+
+-- as a number
+pub no-start-is : 0x7FF38A ≡ codeWord 2047
+unfolding codeWord chosen
+no-start-is = refl
 
 -- bits 3 and 2 of the stream byte are sent zero, and ignored
 pub stream-back : (s r : ℕ) → s < 16 → r < 4 → (streamOf (streamByte s + r * 4) ≡ s) × (versionOf (streamByte s + r * 4) ≡ 0)

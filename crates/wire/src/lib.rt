@@ -2,10 +2,10 @@
 ghost use mathlib.Core.Path.{_≡_};
 ghost use mathlib.Core.Option.{some};
 ghost use Prim.Native.Nat.{_+_, _≤_};
-ghost use lib.Dec.{leb};
+ghost use lib.Dec.{eqb};
 ghost use Rattle.wire.specs.Wire.{word, header, offsetNumber, tpHeader};
 ghost use Rattle.golay.specs.Answers.{reading};
-ghost use Rattle.golay.specs.Golay.{codeWord, distance, high, syndrome};
+ghost use Rattle.golay.specs.Golay.{codeWord, high, syndrome};
 ghost use Rattle.wire.specs.Reading.{fieldsOf, headerFrom, headerIn, intactIn, readOf, tpNumberIn, tpWordOf, sortOf};
 
 mod limits;
@@ -170,13 +170,13 @@ pub fn read_tp_word(bytes: u32) -> TpWord
 }
 
 // The code word of 2047: no low-latency part, and no EP begins.
-const NO_START: u32 = 0x7F_F38A;
+pub const NO_START: u32 = 0x7F_F38A;
 
-// Whether three bytes, as a number, say that, repaired or not.
+// Whether three bytes, as a number, are that word.
 pub fn says_no_start(bytes: u32) -> bool
-    ensures { λ r. ⌜ r ≡ leb (distance bytes (codeWord 2047)) 3 ⌝ }
+    ensures { λ r. ⌜ r ≡ eqb bytes (codeWord 2047) ⌝ }
 {
-    golay::is_near(bytes, NO_START)
+    bytes == NO_START
 }
 
 pub fn sort_of(content: u8) -> Sort

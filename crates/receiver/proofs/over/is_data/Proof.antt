@@ -63,10 +63,10 @@ returns-10 : tie.Need-returns-10
 returns-10 c =
     let start = c .before .before .before .before .before .before .before .before .before .before .before .before .before .before .before .before .before .before .before .before .before in
     let a = start .args in
-    let said = c .before .before .before .before .before .before .before .before .before .before .says-no-start in
-    let near = rw (c .before .before .before .before .before .before .before .before .before .before .before .tp-word .ensures) at (sym (said .ensures) ∙ not-false (said .result) (c .before .before .before .before .before .before .before .before .before .if3 .left)) in
+    let asked = c .before .before .before .before .before .before .before .before .before .before .says-no-start in
+    let said = rw (c .before .before .before .before .before .before .before .before .before .before .before .tp-word .ensures) at (sym (asked .ensures) ∙ not-false (asked .result) (c .before .before .before .before .before .before .before .before .before .if3 .left)) in
     data-if (a .r) (a .tp .now) (a .room) _ _ _ _ _ _ (start .pre) (λ i. omega (arith, c .before .before .before .before .before .before .before .before .before .before .before .before .before .before .before .before .before .before .before .before .shared-slice-known .given i)) (omega (arith, c .before .before .before .before .before .before .before .before .before .before .before .before .before .before .before .before .before .before .before .if1 .left)) (c .before .before .before .before .before .before .before .before .before .before .before .before .before .before .before .before .phase .given .1)
-    (c .before .before .before .before .before .before .before .before .before .before .before .before .before .enum-told .given .1) (omega (arith, c .before .before .before .before .before .before .before .before .before .before .before .before .if2 .left)) near (c .before .before .before .before .before .before .before .enum-told3 .given .1) (c .before .before .before .before .before .if4 .left) (c .before .before .before .if5 .left) (c .if6 .left)
+    (c .before .before .before .before .before .before .before .before .before .before .before .before .before .enum-told .given .1) (omega (arith, c .before .before .before .before .before .before .before .before .before .before .before .before .if2 .left)) said (c .before .before .before .before .before .before .before .enum-told3 .given .1) (c .before .before .before .before .before .if4 .left) (c .before .before .before .if5 .left) (c .if6 .left)
 
 pub is-data-spec : {M : Type 1} → statement M
 is-data-spec =
