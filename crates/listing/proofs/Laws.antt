@@ -1,6 +1,6 @@
 -- A line put piece by piece into a block with room for it is the line; and where the block was a text of its own, its start is
 -- the line. A find that goes on makes the block hold more. Assumes nothing.
-use Prim.Native.Nat.{ℕ, _+_, _-_, _≤_, _<_}
+use Prim.Native.Nat.{ℕ, _+_, _-_, _%_, _≤_, _<_}
 use mathlib.Core.Path.{_≡_, refl, ap, ap₂, sym, subst, _∙_}
 use mathlib.Core.Bool.{Bool, true, false, cond}
 use mathlib.Core.List.{List, [], _∷_, _++_, append-assoc}
@@ -13,6 +13,7 @@ use Rattle.block.specs.Block.{Block, placed, put}
 use Rattle.block.specs.Decimal.{decimal}
 use Rattle.block.proofs.Laws.{fits, held-placed, length-placed, then, room, blockOf}
 use Rattle.block.proofs.Decimals.{decimal-most}
+use Rattle.block.proofs.Straight.{one-digit}
 use Rattle.receiver.specs.declared.Find.{Find}
 use Rattle.receiver.specs.declared.Find.the-variants.{Nothing, Refused, Notice, Low, Ordinary}
 use Rattle.listing.specs.Lines.{lowWord, ordinaryWord, noticeWord, lineWith, lineOf, behind, restOf}
@@ -70,12 +71,38 @@ module _ (w : List ℕ) (d : List ℕ) (at : ℕ) (short : length w ≤ 10) (h :
   pub worded : (c n : ℕ) (z : List ℕ) (q : ℕ) → blockOf z q ≡ put y r (tail c n) → blockOf z q ≡ put d at (behind w c n)
   worded c n z q f = then d y z w (tail c n) at r q (omega (arith, tail-most c n)) e f
 
+-- a word with a content of one digit, then the bytes
+module _ (w : List ℕ) (d : List ℕ) (at c : ℕ) (short : length w ≤ 10) (h : at + 52 ≤ length d) (few : c ≤ 9) where
+  abbrev once : List ℕ
+  once = w ++ (48 + c) ∷ 32 ∷ []
+
+  digit : (48 + c) ∷ [] ≡ decimal c
+  digit = let same : 48 + c ≡ 48 + c % 10 = omega arith in ap (λ (v : ℕ). v ∷ []) same ∙ sym (one-digit c (omega arith))
+
+  once-long : length once ≡ length w + 2
+  once-long = length-append w ((48 + c) ∷ 32 ∷ [])
+
+  module _ (y₁ : List ℕ) (r₁ : ℕ) (e₁ : blockOf y₁ r₁ ≡ put d at once) where
+    pub once-room : r₁ + 40 ≤ length y₁
+    once-room = room d y₁ once at r₁ 40 e₁ (omega (arith, once-long))
+
+    pub at-once : (n : ℕ) (y₂ y₃ : List ℕ) (r₂ r₃ : ℕ) → blockOf y₂ r₂ ≡ put y₁ r₁ (decimal n) → blockOf y₃ r₃ ≡ put y₂ r₂ (10 ∷ [])
+        → blockOf y₃ r₃ ≡ put d at (behind w c n)
+    at-once n y₂ y₃ r₂ r₃ e₂ e₃ =
+        let f = decimal-most n in
+        let e₁₂ = then d y₁ y₂ once (decimal n) at r₁ r₂ (omega (arith, once-long, f)) e₁ e₂ in
+        then d y₂ y₃ (once ++ decimal n) (10 ∷ []) at r₂ r₃ (omega (arith, once-long, f, length-append once (decimal n))) e₁₂ e₃
+        ∙ ap (put d at)
+        (append-assoc once (decimal n) (10 ∷ [])
+        ∙ append-assoc w ((48 + c) ∷ 32 ∷ []) (decimal n ++ (10 ∷ []))
+        ∙ ap (λ (s : List ℕ). w ++ (s ++ (32 ∷ []) ++ decimal n ++ (10 ∷ []))) digit)
+
 -- ---- the line of a find: a TP's number, and the rest
 
 behind-most : (w : List ℕ) (c n : ℕ) → length w ≤ 10 → length (behind w c n) ≤ 52
 behind-most w c n short = omega (arith, length-append w (tail c n), tail-most c n)
 
-behind-some : (w : List ℕ) (c n : ℕ) → 5 ≤ length w → 7 ≤ length (behind w c n)
+pub behind-some : (w : List ℕ) (c n : ℕ) → 5 ≤ length w → 7 ≤ length (behind w c n)
 behind-some w c n some = omega (arith, length-append w (tail c n), length-append (decimal c ++ (32 ∷ []) ++ decimal n) (10 ∷ []), length-append (decimal c ++ (32 ∷ [])) (decimal n), length-append (decimal c) (32 ∷ []))
 
 with-word : (t : ℕ) (w : List ℕ) (c n : ℕ) → decimal t ++ behind w c n ≡ lineWith t w c n

@@ -9,6 +9,7 @@ ghost use Rattle.block.specs.Block.{put};
 ghost use Rattle.block.specs.Decimal.{decimal};
 ghost use Rattle.receiver.specs.State.{Able};
 ghost use Rattle.receiver.specs.Call.{callOf, Gives};
+ghost use Rattle.receiver.specs.declared.Find.the-variants.{Notice, Low, Ordinary};
 ghost use Rattle.listing.specs.Lines.{headerLine, lowWord, ordinaryWord, noticeWord, lineOf, behind, restOf};
 ghost use Rattle.listing.specs.Tens.{Kept};
 use receiver::Find;
@@ -160,6 +161,128 @@ fn line_in(ten: Ten, number: u64, find: Find, out: &mut [u8], at: usize) -> Numb
     let begun = tens::put(ten, number, out, at);
     let kept = begun.ten;
     let held = rest(find, out, begun.at);
+    Numbered {
+        ten: kept,
+        at: held,
+    }
+}
+
+// Puts what `ordinary` puts, more of it at once where the content has one digit.
+fn packet(content: u8, bytes: u64, out: &mut [u8], at: usize) -> usize
+    requires { ⌜ at + 52 ≤ length (now out) ⌝ }
+    ensures { λ r. ⌜ record { bytes = now (out .exit); at = r } ≡ put (now (out .entry)) at (behind ordinaryWord content bytes) ⌝ }
+{
+    if 9 < content {
+        return ordinary(content as u64, bytes, out, at);
+    }
+    let text = [
+        b' ',
+        b'o',
+        b'r',
+        b'd',
+        b'i',
+        b'n',
+        b'a',
+        b'r',
+        b'y',
+        b' ',
+        48 + content,
+        b' ',
+    ];
+    let mut held = piece(out, at, &text);
+    held = block::put_small(out, held, bytes);
+    piece(out, held, b"\n")
+}
+
+// Puts the line of an ordinary packet, its TP's number by the ten that is kept.
+pub fn ordinary_line(
+    ten: Ten,
+    number: u64,
+    content: u8,
+    len: usize,
+    out: &mut [u8],
+    at: usize,
+) -> Numbered
+    requires { ⌜ Kept ten ⌝ }
+    ensures { λ r. ⌜ Kept (r .ten) ⌝ }
+    ensures { λ r. ⌜ record { bytes = now (out .exit); at = r .at } ≡ put (now (out .entry)) at (decimal number ++ restOf (Ordinary content len)) ⌝ }
+{
+    if !has_room(out.len(), at) {
+        let held = by_text(number, Find::Ordinary { content, len }, out, at);
+        return Numbered { ten, at: held };
+    }
+    let begun = tens::put(ten, number, out, at);
+    let kept = begun.ten;
+    let held = packet(content, len as u64, out, begun.at);
+    Numbered {
+        ten: kept,
+        at: held,
+    }
+}
+
+// Puts what `low` puts, more of it at once where the content has one digit.
+fn low_packet(content: u8, bytes: u64, out: &mut [u8], at: usize) -> usize
+    requires { ⌜ at + 52 ≤ length (now out) ⌝ }
+    ensures { λ r. ⌜ record { bytes = now (out .exit); at = r } ≡ put (now (out .entry)) at (behind lowWord content bytes) ⌝ }
+{
+    if 9 < content {
+        return low(content as u64, bytes, out, at);
+    }
+    let text = [b' ', b'l', b'o', b'w', b' ', 48 + content, b' '];
+    let mut held = piece(out, at, &text);
+    held = block::put_small(out, held, bytes);
+    piece(out, held, b"\n")
+}
+
+// Puts the line of a low-latency packet, its TP's number by the ten that is kept.
+pub fn low_line(
+    ten: Ten,
+    number: u64,
+    content: u8,
+    start: usize,
+    len: usize,
+    out: &mut [u8],
+    at: usize,
+) -> Numbered
+    requires { ⌜ Kept ten ⌝ }
+    ensures { λ r. ⌜ Kept (r .ten) ⌝ }
+    ensures { λ r. ⌜ record { bytes = now (out .exit); at = r .at } ≡ put (now (out .entry)) at (decimal number ++ restOf (Low content start len)) ⌝ }
+{
+    if !has_room(out.len(), at) {
+        let held = by_text(
+            number,
+            Find::Low {
+                content,
+                start,
+                len,
+            },
+            out,
+            at,
+        );
+        return Numbered { ten, at: held };
+    }
+    let begun = tens::put(ten, number, out, at);
+    let kept = begun.ten;
+    let held = low_packet(content, len as u64, out, begun.at);
+    Numbered {
+        ten: kept,
+        at: held,
+    }
+}
+
+// Puts the line of a notice, its TP's number by the ten that is kept.
+pub fn notice_line(ten: Ten, number: u64, n: u8, out: &mut [u8], at: usize) -> Numbered
+    requires { ⌜ Kept ten ⌝ }
+    ensures { λ r. ⌜ Kept (r .ten) ⌝ }
+    ensures { λ r. ⌜ record { bytes = now (out .exit); at = r .at } ≡ put (now (out .entry)) at (decimal number ++ restOf (Notice n)) ⌝ }
+{
+    if !has_room(out.len(), at) {
+        let held = by_text(number, Find::Notice(n), out, at);
+        return Numbered { ten, at: held };
+    }
+    let begun = tens::put(ten, number, out, at);
+    let kept = begun.ten;
+    let held = notice(n as u64, out, begun.at);
     Numbered {
         ten: kept,
         at: held,

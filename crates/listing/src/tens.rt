@@ -75,10 +75,7 @@ pub fn put(ten: Ten, number: u64, out: &mut [u8], at: usize) -> Numbered
     requires { ⌜ at + 20 ≤ length (now out) ⌝ }
     ensures { λ r. ⌜ Begun (now (out .entry)) at number (now (out .exit)) (r .at) × Kept (r .ten) ⌝ }
 {
-    if ten.last < number {
-        return put_anew(ten, number, out, at);
-    }
-    if 9 < ten.last - number {
+    if 9 < std::num::wrapping_sub_u64(ten.last, number) {
         return put_anew(ten, number, out, at);
     }
     Numbered {
