@@ -1,10 +1,11 @@
 -- One find more, and one record more: from what a call or a record's turn ensures to what the loops promise. Assumes nothing.
-use Prim.Native.Nat.{ℕ, _+_}
+use Prim.Native.Nat.{ℕ, _+_, _≤_, min}
 use mathlib.Core.Path.{_≡_, refl, ap, sym, subst, subst⁻¹, _∙_}
 use mathlib.Core.Bool.{true, false}
 use mathlib.Core.Logic.{inl, inr, ⊎-elim}
 use mathlib.Core.List.{List, [], _++_, append-assoc, append-nil}
-use lib.ListN.{length, take}
+use native.Mathlib.Omega.{arith}
+use lib.ListN.{length, take, length-take, length-append}
 use Rattle.house.specs.Series.{unreadIn}
 use Rattle.house.specs.Slices.{atHand, dataIn}
 use Rattle.house.specs.declared.AtHand.the-variants.{Whole}
@@ -14,13 +15,14 @@ use Rattle.house.specs.declared.Record.the-variants.{Setup, Ordinary, Low, Draw
 use Rattle.house.proofs.Slicing.{whole-data, Read, listing-reads}
 use Rattle.listing.specs.Hearing.{Hears, nothing, then, Ends, last}
 use Rattle.listing.specs.Lines.{lineOf}
+use Rattle.listing.specs.declared.Ten.{Ten}
 use Rattle.receiver.specs.Call.{Gives, callOf, gapOf, lasts}
 use Rattle.receiver.specs.Lanes.{endsIn}
 use Rattle.receiver.specs.State.{Able}
 use Rattle.receiver.specs.declared.Receiver.{Receiver}
 use Rattle.receiver.specs.declared.Stamp.{Stamp}
 use Rattle.receiver.specs.declared.Step.{Step}
-use Rattle.list_loop.specs.Running.{Found, Told, Does, Standing, standing, Lists, hears, ends, gap, Listed}
+use Rattle.list_loop.specs.Running.{Ahead, Found, Told, Does, Standing, standing, Lists, hears, ends, gap, Listed}
 use Rattle.list_loop.specs.Running as L
 use Rattle.list_loop.specs.declared.Run.{Run}
 
@@ -146,3 +148,43 @@ module _ (till : ℕ) (block : List ℕ) (first : Run) (m₀ out₀ : List ℕ) 
       → Listed till block first m₀ out₀ r m′ out′
   listed-then said x whole is d =
       by-record said (listing-reads u said whole) whole (subst (λ (y : List ℕ). Does said y run m out r m′ out′) is d)
+
+-- ---- in two goes as in one
+
+lists-on : {block : List ℕ} {till : ℕ} {a b c : Standing} {ls ms : List ℕ} → Lists block till a ls b → Lists block till b ms c → Lists block till a (ls ++ ms) c
+lists-on {block} {till} {a} {b} {ls = ls} h L.nothing = subst⁻¹ (λ (x : List ℕ). Lists block till a x b) (append-nil ls) h
+lists-on {block} {till} {a} {ls = ls} h (hears {ls = ns} {ms = os} {b = d} {r = r} {m = m} g w x) =
+    subst (λ (y : List ℕ). Lists block till a y (record { from = d .from; done = d .done; receiver = r; room = m })) (append-assoc ls ns os) (hears (lists-on h g) w x)
+lists-on {block} {till} {a} {ls = ls} h (ends {ls = ns} {ms = os} {b = d} {n = n} {r = r} {m = m} g w x) =
+    subst (λ (y : List ℕ). Lists block till a y (record { from = d .from + 8 + n; done = d .done + 1; receiver = r; room = m })) (append-assoc ls ns os) (ends (lists-on h g) w x)
+lists-on h (gap g w) = gap (lists-on h g) w
+
+module _ (till : ℕ) (block : List ℕ) (first : Run) (m₀ out₀ : List ℕ) (run : Run) (m out : List ℕ) (l : Listed till block first m₀ out₀ run m out) where
+  pub listed-on : (r : Run) (m′ out′ : List ℕ) → Listed till block run m out r m′ out′ → Listed till block first m₀ out₀ r m′ out′
+  listed-on r m′ out′ g =
+      record {
+        lines = l .lines ++ g .lines;
+        taken = lists-on (l .taken) (g .taken);
+        held = g .held ∙ ap (λ (x : List ℕ). x ++ g .lines) (l .held) ∙ append-assoc (take (first .at) out₀) (l .lines) (g .lines);
+      }
+
+  -- by an equal receiver, whatever the ten
+  pub listed-as : (x : Receiver) (ten : Ten) → x ≡ run .receiver
+      → Listed till block first m₀ out₀ (record { receiver = x; done = run .done; ten = ten; at = run .at; from = run .from }) m out
+  listed-as x ten e =
+      record {
+        lines = l .lines;
+        taken = subst⁻¹ (λ (y : Receiver). Lists block till (standing first m₀) (l .lines) (record { from = run .from; done = run .done; receiver = y; room = m })) e (l .taken);
+        held = l .held;
+      }
+
+  -- no less is held than before
+  pub listed-more : first .at ≤ length out₀ → first .at ≤ run .at
+  listed-more inside =
+      let n : min (run .at) (length out) ≡ min (first .at) (length out₀) + length (l .lines) =
+      sym (length-take (run .at) out) ∙ ap length (l .held) ∙ length-append (take (first .at) out₀) (l .lines) ∙ ap (λ (i : ℕ). i + length (l .lines)) (length-take (first .at) out₀) in
+      omega (arith, n, inside)
+
+pub ahead-on : {till : ℕ} {first run r : Run} → Ahead first till run → Ahead run till r → Ahead first till r
+ahead-on a b =
+    record { able = b .able; ten = b .ten; from = omega (arith, a .from, b .from); end = b .end; count = omega (arith, a .count, b .count) }

@@ -48,6 +48,16 @@ pub record Ready (r : Run) (till b o : ℕ) : Type 0 where
   pub size : b ≤ 131072
   pub count : r .done ≤ 9223372036854775808
 
+-- the same with some of them taken: no more TPs are new than bytes were taken
+pub record Midway (r : Run) (till b o : ℕ) : Type 0 where
+  pub able : Able (r .receiver)
+  pub ten : Kept (r .ten)
+  pub room : 61520 ≤ o
+  pub from : r .from ≤ till
+  pub end : till ≤ b
+  pub size : b ≤ 131072
+  pub count : r .done ≤ 9223372036854775808 + r .from
+
 -- behind them
 pub record Ahead (first : Run) (till : ℕ) (r : Run) : Type 0 where
   pub able : Able (r .receiver)

@@ -5,6 +5,9 @@ ghost use Prim.Native.Nat.{_≤_};
 ghost use lib.ListN.{length};
 ghost use Rattle.list_loop.specs.Running.{Fit, Onward, Ready, Ahead, Found, Does, Listed};
 ghost use Rattle.list_loop.specs.Whole.{Begins, settingOf};
+
+mod lanes;
+
 use console::BLOCKS;
 use console::FULL;
 use console::More;
@@ -22,7 +25,7 @@ use receiver::over;
 
 // Between two finds: the receiver, how many TPs are done, how much of the output block is held, where in the input block the
 // record begins.
-struct Run {
+pub struct Run {
     receiver: Receiver,
     done: u64,
     ten: Ten,
@@ -112,11 +115,15 @@ fn turns(first: Run, till: usize, block: &[u8], room: &mut [u8], out: &mut [u8])
 {
     let mut run = first;
     while run.at < FULL {
+        run = lanes::pass_all(run, till, block, room, out);
         let from = run.from;
         let unread = &block[from..till];
         let AtHand::Whole(said) = house::read_record(Place::Listing, unread) else {
             return run;
         };
+        if FULL <= run.at {
+            return run;
+        }
         run = turn(run, said, house::data_of(said, unread), room, out);
     }
     run
