@@ -107,7 +107,7 @@ fn turn(run: Run, said: Record, data: &[u8], room: &mut [u8], out: &mut [u8]) ->
     }
 }
 
-// Takes the whole records of the input block, while the output block has room.
+// Takes the whole records of the input block, while the output block has room: TPs by tracks, and by calls what those leave.
 fn turns(first: Run, till: usize, block: &[u8], room: &mut [u8], out: &mut [u8]) -> Run
     requires { ⌜ Ready first till (length (now block)) (length (now out)) ⌝ }
     ensures { λ r. ⌜ Ahead first till r ⌝ }
@@ -121,6 +121,7 @@ fn turns(first: Run, till: usize, block: &[u8], room: &mut [u8], out: &mut [u8])
         let AtHand::Whole(said) = house::read_record(Place::Listing, unread) else {
             return run;
         };
+        // Tracks may have filled the output block.
         if FULL <= run.at {
             return run;
         }
