@@ -6,3 +6,4 @@ pub mod Decoder
 pub mod Ends
 pub mod Theorems
 pub mod Lookups
+pub mod Filling

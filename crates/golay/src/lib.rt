@@ -2,8 +2,9 @@
 ghost use mathlib.Core.Path.{_≡_};
 ghost use lib.Dec.{eqb};
 ghost use Rattle.golay.specs.Golay.{codeWord, placesTo, syndrome};
-ghost use Rattle.golay.specs.Answers.{Decodes, Mends, endByte, endFlips, endMeant};
+ghost use Rattle.golay.specs.Answers.{Decodes, Enters, Mends, endByte, endFlips, endMeant};
 
+pub mod book;
 mod checks;
 mod corrections;
 pub mod pair;
@@ -57,12 +58,11 @@ pub fn is_intact(w: u32) -> bool
     checks::number((w % 4096) as u16) == ((w >> 12) % 4096) as u16
 }
 
-// What the 24 low bits of w say, whose syndrome is known: the table decides.
-pub fn mend(w: u32, s: u16) -> Mended
-    requires { ⌜ s ≡ syndrome w ⌝ }
+// What the 24 low bits of w say by the table's entry at its syndrome.
+fn said(w: u32, entry: u16) -> Mended
+    requires { ⌜ Enters (syndrome w) entry ⌝ }
     ensures { λ r. ⌜ Mends w r ⌝ }
 {
-    let entry = corrections::correction(s);
     if entry == 0xFFFF {
         return Mended::Beyond;
     }
@@ -71,6 +71,14 @@ pub fn mend(w: u32, s: u16) -> Mended
         number: ((w >> 12) % 4096) as u16 ^ flipped,
         flips: (entry / 4096) as u8,
     }
+}
+
+// What the 24 low bits of w say, whose syndrome is known: the table decides.
+pub fn mend(w: u32, s: u16) -> Mended
+    requires { ⌜ s ≡ syndrome w ⌝ }
+    ensures { λ r. ⌜ Mends w r ⌝ }
+{
+    said(w, corrections::correction(s))
 }
 
 // What the 24 low bits of w say. An intact word leaves at once.

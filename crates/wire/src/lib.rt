@@ -8,6 +8,7 @@ ghost use Rattle.golay.specs.Answers.{reading};
 ghost use Rattle.golay.specs.Golay.{codeWord, high, syndrome};
 ghost use Rattle.wire.specs.Reading.{fieldsOf, headerFrom, headerIn, intactIn, readOf, tpNumberIn, tpWordOf, sortOf};
 
+pub mod book;
 mod limits;
 
 use golay::Mended;
