@@ -1,5 +1,5 @@
 -- What each test says of a record in a slice. Assumes nothing.
-use Prim.Native.Nat.{ℕ, _+_, _-_, _≤_, _<_, min}
+use Prim.Native.Nat.{ℕ, _+_, _-_, _/_, _%_, _≤_, _<_, min}
 use mathlib.Core.Path.{_≡_, refl, ap, sym, subst, subst⁻¹, _∙_}
 use mathlib.Core.Bool.{Bool, true, false, cond}
 use mathlib.Core.List.{List, [], _∷_, _++_}
@@ -15,7 +15,7 @@ use Rattle.wire.proofs.Allowing.{both}
 use Rattle.house.specs.declared.Record.{Record}
 use Rattle.house.specs.declared.Record.the-variants.{Setup, Ordinary, Low, Draw, Packet, Gap}
 use Rattle.house.specs.declared.Place.{Place}
-use Rattle.house.specs.declared.Place.the-variants.{Start, Listing}
+use Rattle.house.specs.declared.Place.the-variants.{Start, Sending, Listing}
 use Rattle.house.specs.declared.Fault.{Fault}
 use Rattle.house.specs.declared.Fault.the-variants.{Mark, Kind, Content, Length}
 use Rattle.house.specs.declared.Judged.{Judged}
@@ -43,19 +43,37 @@ module _ (p : Place) (s : List ℕ) (byte : getD s 1 0 < 256) where
   pub other-second : (getD s 1 0 ≡ 7 → ⊥) → Bad Mark ≡ judgedOf p s
   other-second h = no-mark (λ e. h (omega (arith, e)))
 
--- ---- a TP's head
+-- ---- a head's first four bytes at once
 
-four-bytes : (a b c d : ℕ) → a < 256 → b < 256 → c < 256 → number 0 (d ∷ c ∷ b ∷ a ∷ []) ≡ 0x000407C7
-    → (a ≡ 199) × ((b ≡ 7) × ((c ≡ 4) × (d ≡ 0)))
-four-bytes a b c d ha hb hc e = (omega arith, (omega arith, (omega arith, omega arith)))
+-- three of them are the mark and a kind, the fourth is the content
+four-bytes : (a b c d k n : ℕ) → a < 256 → b < 256 → c < 256 → d < 256 → n ≡ number 0 (d ∷ c ∷ b ∷ a ∷ []) → n % 0x1000000 ≡ number 0 (k ∷ 7 ∷ 199 ∷ [])
+    → (a ≡ 199) × ((b ≡ 7) × ((c ≡ k) × (d ≡ n / 0x1000000 % 256)))
+four-bytes a b c d k n ha hb hc hd is e = (omega arith, (omega arith, (omega arith, omega arith)))
 
-module _ (s : List ℕ) (byte : (i : ℕ) → getD s i 0 < 256) where
-  pub tp-head : (n : ℕ) → number 0 (getD s 3 0 ∷ getD s 2 0 ∷ getD s 1 0 ∷ getD s 0 0 ∷ []) ≡ 0x000407C7
-      → n ≡ number 0 (getD s 4 0 ∷ getD s 5 0 ∷ getD s 6 0 ∷ getD s 7 0 ∷ []) → n ≤ 32768 → Good (Packet n) ≡ judgedOf Listing s
-  unfolding judgedOf ruled
-  tp-head n start long few =
-      let e = four-bytes (getD s 0 0) (getD s 1 0) (getD s 2 0) (getD s 3 0) (byte 0) (byte 1) (byte 2) start in
-      rw (e .0, e .1 .0, e .1 .1 .0, e .1 .1 .1, ← long, le-leb n 32768 few)
+module _ (s : List ℕ) (byte : (i : ℕ) → getD s i 0 < 256) (start n : ℕ)
+    (four : start ≡ number 0 (getD s 3 0 ∷ getD s 2 0 ∷ getD s 1 0 ∷ getD s 0 0 ∷ []))
+    (long : n ≡ number 0 (getD s 4 0 ∷ getD s 5 0 ∷ getD s 6 0 ∷ getD s 7 0 ∷ [])) where
+  by-kind : (p : Place) (k : ℕ) → start % 0x1000000 ≡ number 0 (k ∷ 7 ∷ 199 ∷ []) → ruled p k (start / 0x1000000 % 256) n ≡ judgedOf p s
+  unfolding judgedOf
+  by-kind p k e =
+      let b = four-bytes (getD s 0 0) (getD s 1 0) (getD s 2 0) (getD s 3 0) k start (byte 0) (byte 1) (byte 2) (byte 3) four e in
+      rw (b .0, b .1 .0, b .1 .1 .0, b .1 .1 .1, ← long)
+
+  pub tp-head : start ≡ 0x000407C7 → n ≤ 32768 → Good (Packet n) ≡ judgedOf Listing s
+  unfolding ruled
+  tp-head e few = rw (← by-kind Listing 4 (ap (λ (x : ℕ). x % 0x1000000) e), e, le-leb n 32768 few)
+
+  pub draw-head : start ≡ 0x000307C7 → n ≡ 0 → Good Draw ≡ judgedOf Sending s
+  unfolding ruled
+  draw-head e none = rw (← by-kind Sending 3 (ap (λ (x : ℕ). x % 0x1000000) e), e, none)
+
+  pub ordinary-head : start % 0x1000000 ≡ 0x0107C7 → n ≤ 32768 → Good (Ordinary (start / 0x1000000 % 256) n) ≡ judgedOf Sending s
+  unfolding ruled
+  ordinary-head e few = rw (← by-kind Sending 1 e, le-leb n 32768 few)
+
+  pub low-head : start % 0x1000000 ≡ 0x0207C7 → n ≤ 32768 → Good (Low (start / 0x1000000 % 256) n) ≡ judgedOf Sending s
+  unfolding ruled
+  low-head e few = rw (← by-kind Sending 2 e, le-leb n 32768 few)
 
 -- ---- read
 

@@ -4,6 +4,7 @@ ghost use mathlib.Core.List.{[], _∷_};
 ghost use Prim.Native.Nat.{_≤_};
 ghost use lib.ListN.{length, getD};
 ghost use Rattle.digits.specs.Digits.{number};
+ghost use Rattle.house.specs.declared.Place.the-variants.{Sending};
 ghost use Rattle.house.specs.Records.{lengthOf, headOf, kindOf, contentOf, isRead, contentFits, lengthFits, recordOf, ruled, judgedOf};
 use crate::Fault;
 use crate::Judged;
@@ -163,11 +164,43 @@ fn judge_bytes(place: Place, s: &[u8]) -> Judged
     rule(place, s[2], s[3], length)
 }
 
-// Judges the head at the start of s: a TP's at once, where one is looked for.
+// Judges the head at the start of s where a script is read: an SP's or a draw's at once.
+fn judge_sending(s: &[u8]) -> Judged
+    requires { ⌜ 8 ≤ length (now s) ⌝ }
+    ensures { λ r. ⌜ r ≡ judgedOf Sending (now (s .entry)) ⌝ }
+{
+    let start = start_of(s);
+    let length = digits::from_four(s[4], s[5], s[6], s[7]);
+    if start == 0x000307C7 {
+        if length == 0 {
+            return Judged::Good(Record::Draw);
+        }
+    }
+    if length <= 32768 {
+        if start % 0x1000000 == 0x0107C7 {
+            return Judged::Good(Record::Ordinary {
+                content: (start / 0x1000000 % 256) as u8,
+                length,
+            });
+        }
+        if start % 0x1000000 == 0x0207C7 {
+            return Judged::Good(Record::Low {
+                content: (start / 0x1000000 % 256) as u8,
+                length,
+            });
+        }
+    }
+    judge_bytes(Place::Sending, s)
+}
+
+// Judges the head at the start of s: an SP's, a draw's or a TP's at once, where one is looked for.
 pub fn judge(place: Place, s: &[u8]) -> Judged
     requires { ⌜ 8 ≤ length (now s) ⌝ }
     ensures { λ r. ⌜ r ≡ judgedOf place (now (s .entry)) ⌝ }
 {
+    if let Place::Sending = place {
+        return judge_sending(s);
+    }
     let Place::Listing = place else {
         return judge_bytes(place, s);
     };
