@@ -19,7 +19,7 @@ use Rattle.listing.specs.declared.Ten.{Ten}
 use Rattle.receiver.specs.Lanes.{LanedAs, StandsIn, inLane}
 use Rattle.receiver.specs.Place.{countOf, ownOf}
 use Rattle.receiver.specs.State.{Able}
-use Rattle.receiver.specs.Tracks.{Kempt, TracksAs, laneIn, placeIn}
+use Rattle.receiver.specs.Tracks.{Kempt, Placed, TracksAs, laneIn, placeIn}
 use Rattle.receiver.specs.declared.Receiver.{Receiver}
 use Rattle.receiver.specs.declared.Stage.the-variants.{Fresh}
 use Rattle.receiver.specs.declared.Stamp.{Stamp}
@@ -27,6 +27,7 @@ use Rattle.receiver.specs.declared.lane.Lane.{Lane}
 use Rattle.receiver.specs.declared.lane.Lane.the-variants as L
 use Rattle.receiver.specs.declared.track.Track.{Track}
 use Rattle.receiver.proofs.Laning.{lane-able}
+use Rattle.receiver.proofs.Owning.{placed-lane}
 use Rattle.list_loop.specs.Lanes.{LeftAs, PassesBy, Steady, stageBy}
 use Rattle.list_loop.specs.Running.{Ahead, Listed}
 use Rattle.list_loop.specs.declared.Run.{Run}
@@ -114,6 +115,7 @@ module _ (till : ℕ) (block : List ℕ) (first : Run) (m₀ out₀ : List ℕ) 
     along-ahead =
         record {
           able = subst⁻¹ Able e (lane-able b k (laneIn t) Fresh 0 (able .size) (so .kempt .tidy) (omega arith) (omega arith));
+          placed = subst⁻¹ Placed e (placed-lane b k (laneIn t) Fresh 0);
           ten = so .kept;
           from = so .past;
           end = so .end;
@@ -178,7 +180,15 @@ module _ (till : ℕ) (block : List ℕ) (first : Run) (m₀ out₀ : List ℕ) 
         back-is = back ∙ ap (λ (i : ℕ). inLane b i (laneIn (q .track)) (stageBy (q .left) (q .offset)) (q .place)) counted
 
         pub pause-ahead : Ahead first till (record { receiver = z; done = done; ten = q .ten; at = q .at; from = from })
-        pause-ahead = record { able = subst⁻¹ Able back-is (left-by .on e .0 .able); ten = steady .ten; from = so .past; end = so .end; count = so .count }
+        pause-ahead =
+            record {
+              able = subst⁻¹ Able back-is (left-by .on e .0 .able);
+              placed = subst⁻¹ Placed back (placed-lane b k′ (laneIn (q .track)) (stageBy (q .left) (q .offset)) (q .place));
+              ten = steady .ten;
+              from = so .past;
+              end = so .end;
+              count = so .count;
+            }
 
         pub pause-listed : Listed till block first m₀ out₀ (record { receiver = z; done = done; ten = q .ten; at = q .at; from = from }) m′ out′
         pause-listed =

@@ -1,6 +1,6 @@
 -- Where the loop begins: what the opening and the header line ensure. Assumes nothing.
 use Prim.Native.Nat.{ℕ}
-use mathlib.Core.Path.{_≡_, refl, ap, sym, subst}
+use mathlib.Core.Path.{_≡_, refl, ap, sym, subst, subst⁻¹}
 use mathlib.Core.List.{List}
 use lib.ListN.{length, take}
 use Rattle.listing.specs.Lines.{headerLine}
@@ -8,7 +8,9 @@ use Rattle.receiver.specs.declared.Opened.{Opened}
 use Rattle.receiver.specs.declared.Opened.the-variants.{Ready}
 use Rattle.receiver.specs.declared.Receiver.{Receiver}
 use Rattle.receiver.specs.Call.{OpenedAs, freshOf}
+use Rattle.receiver.specs.Tracks.{Placed}
 use Rattle.receiver.proofs.Listening.{opened-fresh}
+use Rattle.receiver.proofs.Owning.{placed-fresh}
 use Rattle.list_loop.specs.Whole.{settingOf, Begins}
 use Rattle.list_loop.specs.declared.Run.{Run}
 
@@ -24,3 +26,8 @@ begins size stream m out q r opened is done held =
       done = done;
       held = held;
     }
+
+-- a fresh receiver keeps nothing
+pub placed-first : (size stream room : ℕ) (q : Opened) (r : Receiver) → OpenedAs size stream room q → q ≡ Ready r → Placed r
+placed-first size stream room q r opened is =
+    subst⁻¹ Placed (opened-fresh size stream room r (subst (OpenedAs size stream room) is opened)) (placed-fresh size stream room 0)

@@ -19,9 +19,11 @@ use Rattle.listing.specs.declared.Ten.{Ten}
 use Rattle.receiver.specs.Call.{Gives, callOf, gapOf, lasts}
 use Rattle.receiver.specs.Lanes.{endsIn}
 use Rattle.receiver.specs.State.{Able}
+use Rattle.receiver.specs.Tracks.{Placed}
 use Rattle.receiver.specs.declared.Receiver.{Receiver}
 use Rattle.receiver.specs.declared.Stamp.{Stamp}
 use Rattle.receiver.specs.declared.Step.{Step}
+use Rattle.receiver.proofs.Owning.{placed-next}
 use Rattle.list_loop.specs.Running.{Ahead, Found, Told, Does, Standing, standing, Lists, hears, ends, gap, Listed}
 use Rattle.list_loop.specs.Running as L
 use Rattle.list_loop.specs.declared.Run.{Run}
@@ -62,6 +64,9 @@ module _ (tp : List ℕ) (first : Run) (m out : List ℕ) (r : Receiver) (at : �
 module _ (tp : List ℕ) (first : Run) (m out : List ℕ) (q : Receiver) (t : Stamp) (m′ : List ℕ) (g : Gives (callOf (first .receiver) tp m) (endsIn q t) tp m′) where
   pub able-ended : (r : Receiver) → r ≡ q → Able r
   able-ended r e = subst⁻¹ Able e (g .able)
+
+  pub placed-ended : Able (first .receiver) → Placed (first .receiver) → (r : Receiver) → r ≡ q → Placed r
+  placed-ended able placed r e = subst⁻¹ Placed e (placed-next m able placed g)
 
   pub found-ended : (z : Run) (m₁ : List ℕ) → z .receiver ≡ q → m₁ ≡ m′ → z .at ≡ first .at → z .from ≡ first .from + 8 + length tp → z .done ≡ first .done + 1
       → Found tp first m out z m₁ out
@@ -187,4 +192,4 @@ module _ (till : ℕ) (block : List ℕ) (first : Run) (m₀ out₀ : List ℕ) 
 
 pub ahead-on : {till : ℕ} {first run r : Run} → Ahead first till run → Ahead run till r → Ahead first till r
 ahead-on a b =
-    record { able = b .able; ten = b .ten; from = omega (arith, a .from, b .from); end = b .end; count = omega (arith, a .count, b .count) }
+    record { able = b .able; placed = b .placed; ten = b .ten; from = omega (arith, a .from, b .from); end = b .end; count = omega (arith, a .count, b .count) }

@@ -1,6 +1,6 @@
--- What holds from find to find, from record to record and from block to block: the receiver can be called again, the ten is kept, what is taken
--- lies within the input block, a line has room in the output block, no count overflows, and what is held are the lines of the calls
--- that the records taken ask for. Assumes nothing.
+-- What holds from find to find, from record to record and from block to block: the receiver can be called again, what it keeps of a complete
+-- EP is its own, the ten is kept, what is taken lies within the input block, a line has room in the output block, no count overflows, and what
+-- is held are the lines of the calls that the records taken ask for. Assumes nothing.
 use Prim.Native.Nat.{ℕ, _+_, _≤_, _<_}
 use mathlib.Core.Path.{_≡_}
 use mathlib.Core.Logic.{_⊎_}
@@ -16,12 +16,14 @@ use Rattle.listing.specs.Hearing.{Hears, Ends}
 use Rattle.listing.specs.Tens.{Kept}
 use Rattle.receiver.specs.Call.{gapOf}
 use Rattle.receiver.specs.State.{Able}
+use Rattle.receiver.specs.Tracks.{Placed}
 use Rattle.receiver.specs.declared.Receiver.{Receiver}
 use Rattle.list_loop.specs.declared.Run.{Run}
 
 -- before a record with n bytes of data, with an output block of o bytes
 pub record Fit (r : Run) (n o : ℕ) : Type 0 where
   pub able : Able (r .receiver)
+  pub placed : Placed (r .receiver)
   pub ten : Kept (r .ten)
   pub room : 61520 ≤ o
   pub held : r .at < 61440
@@ -31,6 +33,7 @@ pub record Fit (r : Run) (n o : ℕ) : Type 0 where
 -- behind it, or where the output block is full: no more TPs are new than bytes were taken, and something was taken or put
 pub record Onward (first : Run) (n : ℕ) (r : Run) : Type 0 where
   pub able : Able (r .receiver)
+  pub placed : Placed (r .receiver)
   pub ten : Kept (r .ten)
   pub held : first .at ≤ r .at
   pub from : first .from ≤ r .from
@@ -41,6 +44,7 @@ pub record Onward (first : Run) (n : ℕ) (r : Run) : Type 0 where
 -- before the records of an input block of b bytes
 pub record Ready (r : Run) (till b o : ℕ) : Type 0 where
   pub able : Able (r .receiver)
+  pub placed : Placed (r .receiver)
   pub ten : Kept (r .ten)
   pub room : 61520 ≤ o
   pub from : r .from ≤ till
@@ -51,6 +55,7 @@ pub record Ready (r : Run) (till b o : ℕ) : Type 0 where
 -- the same with some of them taken: no more TPs are new than bytes were taken
 pub record Midway (r : Run) (till b o : ℕ) : Type 0 where
   pub able : Able (r .receiver)
+  pub placed : Placed (r .receiver)
   pub ten : Kept (r .ten)
   pub room : 61520 ≤ o
   pub from : r .from ≤ till
@@ -61,6 +66,7 @@ pub record Midway (r : Run) (till b o : ℕ) : Type 0 where
 -- behind them
 pub record Ahead (first : Run) (till : ℕ) (r : Run) : Type 0 where
   pub able : Able (r .receiver)
+  pub placed : Placed (r .receiver)
   pub ten : Kept (r .ten)
   pub from : first .from ≤ r .from
   pub end : r .from ≤ till

@@ -4,6 +4,7 @@ ghost use mathlib.Core.Bool.{false};
 ghost use Prim.Native.Nat.{_≤_, _<_};
 ghost use lib.Dec.{eqb};
 ghost use lib.ListN.{length};
+ghost use Rattle.golay.specs.Book.{Book};
 ghost use Rattle.listing.specs.Tens.{Kept};
 ghost use Rattle.receiver.specs.State.{Able};
 ghost use Rattle.receiver.specs.Tracks.{Kempt};
@@ -19,9 +20,9 @@ use receiver::Receiver;
 use receiver::Stage;
 use receiver::Stamp;
 use receiver::lane;
-use receiver::lane::Top;
 use receiver::track;
 use receiver::track::Onto;
+use receiver::track::Top;
 use receiver::track::Track;
 
 // What of a TP is left to calls: all; nothing; or what follows a place among ordinary bytes, behind the low-latency part, within it.
@@ -60,6 +61,7 @@ fn as_left(left: usize, offset: usize, place: usize, track: Track, ten: Ten, at:
 
 // From EP to EP, until so much of the output block is held. Where nothing is put, `left` and `here` stand.
 fn run_on(
+    book: &[u16; 8192],
     o: Onto,
     offset: usize,
     left: usize,
@@ -73,7 +75,7 @@ fn run_on(
     held: usize,
 ) -> Passed
     requires { ⌜ Kept first × (held < 61440) × (61520 ≤ length (now out)) × (length (now tp) ≤ 131072) ⌝ }
-    requires { ⌜ (o .sort ≡ 3 → o .content ≤ 6) × (o .place ≤ length (now tp)) × (eqb (o .sort) 3 ≡ false → o .track .sort ≤ 3) × (o .track .flips < 256) × (left ≤ 4) ⌝ }
+    requires { ⌜ (o .sort ≡ 3 → o .content ≤ 6) × (o .place ≤ length (now tp)) × (eqb (o .sort) 3 ≡ false → o .track .sort ≤ 3) × (o .track .flips < 256) × (left ≤ 4) × Book (now book) ⌝ }
     ensures { λ q. ⌜ Steady q held ⌝ }
     ensures { λ q. ⌜ RunsBy q o stamp left offset here number (now (tp .entry)) (now (room .entry)) (now (out .entry)) held (now (room .exit)) (now (out .exit)) ⌝ }
 {
@@ -93,7 +95,7 @@ fn run_on(
                 return as_left(PLAIN, 0, place, track::turned(t, track::IDLE), ten, at);
             }
         }
-        let a = track::ahead(place, tp, room.len());
+        let a = track::ahead(book, place, tp, room.len());
         if a.sort != track::WHOLE {
             if a.sort != track::OFF {
                 return as_left(DONE, 0, 0, track::behind(t, a, stamp, tp, room), ten, at);
@@ -114,6 +116,7 @@ fn run_on(
 
 // The ordinary bytes, from `here` on. Where nothing is put, `left` and `here` stand.
 fn ordinary(
+    book: &[u16; 8192],
     t: Track,
     offset: usize,
     left: usize,
@@ -127,11 +130,11 @@ fn ordinary(
     at: usize,
 ) -> Passed
     requires { ⌜ Kept ten × (at < 61440) × (61520 ≤ length (now out)) × (length (now tp) ≤ 131072) ⌝ }
-    requires { ⌜ (4 ≤ here) × (here ≤ length (now tp)) × (offset < 2048) × (t .sort ≤ 3) × Kempt (length (now room)) t × (left ≤ 4) ⌝ }
+    requires { ⌜ (4 ≤ here) × (here ≤ length (now tp)) × (offset < 2048) × (t .sort ≤ 3) × Kempt (length (now room)) t × (left ≤ 4) × Book (now book) ⌝ }
     ensures { λ q. ⌜ Steady q at ⌝ }
     ensures { λ q. ⌜ LeadsBy q t stamp left offset here number (now (tp .entry)) (now (room .entry)) (now (out .entry)) at (now (room .exit)) (now (out .exit)) ⌝ }
 {
-    let o = track::set_out(t, offset, here, tp, room);
+    let o = track::set_out(book, t, offset, here, tp, room);
     if o.sort == track::OFF {
         return as_left(left, offset, here, t, ten, at);
     }
@@ -139,7 +142,20 @@ fn ordinary(
         let u = o.track;
         return as_left(DONE, 0, 0, u, ten, at);
     }
-    run_on(o, offset, left, here, stamp, ten, number, tp, room, out, at)
+    run_on(
+        book,
+        o,
+        offset,
+        left,
+        here,
+        stamp,
+        ten,
+        number,
+        tp,
+        room,
+        out,
+        at,
+    )
 }
 
 // Behind the low-latency part, or within it, at this place.
@@ -151,8 +167,15 @@ struct Parted {
 }
 
 // The low-latency part, as long as its LLEPs are packets, while the output block has room.
-fn low_part(first: Ten, number: u64, tp: &[u8], out: &mut [u8], held: usize) -> Parted
-    requires { ⌜ Kept first × (held < 61440) × (61520 ≤ length (now out)) × (4 ≤ length (now tp)) × (length (now tp) ≤ 131072) ⌝ }
+fn low_part(
+    book: &[u16; 8192],
+    first: Ten,
+    number: u64,
+    tp: &[u8],
+    out: &mut [u8],
+    held: usize,
+) -> Parted
+    requires { ⌜ Kept first × (held < 61440) × (61520 ≤ length (now out)) × (4 ≤ length (now tp)) × (length (now tp) ≤ 131072) × Book (now book) ⌝ }
     ensures { λ q. ⌜ PartSteady q (now (tp .entry)) (now (out .entry)) (now (out .exit)) held ⌝ }
     ensures { λ q. ⌜ PartedBy q number (now (tp .entry)) (now (out .entry)) held (now (out .exit)) ⌝ }
 {
@@ -161,7 +184,7 @@ fn low_part(first: Ten, number: u64, tp: &[u8], out: &mut [u8], held: usize) -> 
     let mut place = 4;
     let mut within = true;
     while within {
-        let l = track::llep_at(tp, place);
+        let l = track::llep_at(book, tp, place);
         if !l.found {
             break;
         }
@@ -184,6 +207,7 @@ fn low_part(first: Ten, number: u64, tp: &[u8], out: &mut [u8], held: usize) -> 
 
 // The payload of a TP whose header says so.
 fn payload(
+    book: &[u16; 8192],
     t: Track,
     low: bool,
     offset: usize,
@@ -195,7 +219,7 @@ fn payload(
     out: &mut [u8],
     at: usize,
 ) -> Passed
-    requires { ⌜ Kept ten × (at < 61440) × (61520 ≤ length (now out)) × (4 ≤ length (now tp)) × (length (now tp) ≤ 131072) × (offset < 2048) × (t .sort ≤ 3) × Kempt (length (now room)) t ⌝ }
+    requires { ⌜ Kept ten × (at < 61440) × (61520 ≤ length (now out)) × (4 ≤ length (now tp)) × (length (now tp) ≤ 131072) × (offset < 2048) × (t .sort ≤ 3) × Kempt (length (now room)) t × Book (now book) ⌝ }
     ensures { λ q. ⌜ Steady q at ⌝ }
     ensures { λ q. ⌜ LeavesBy q t stamp (startStage low offset) 4 number (now (tp .entry)) (now (room .entry)) (now (out .entry)) at (now (room .exit)) (now (out .exit)) ⌝ }
 {
@@ -204,7 +228,7 @@ fn payload(
     let mut kept = ten;
     let mut held = at;
     if low {
-        let p = low_part(ten, number, tp, out, at);
+        let p = low_part(book, ten, number, tp, out, at);
         kept = p.ten;
         held = p.at;
         here = p.place;
@@ -220,6 +244,7 @@ fn payload(
         }
     }
     ordinary(
+        book,
         t,
         offset,
         left,
@@ -236,6 +261,7 @@ fn payload(
 
 // One TP, in a track of the receiver `base`.
 fn pass(
+    book: &[u16; 8192],
     base: Receiver,
     t: Track,
     stamp: Stamp,
@@ -246,12 +272,12 @@ fn pass(
     out: &mut [u8],
     at: usize,
 ) -> Passed
-    requires { ⌜ Able base × Kept ten × (at < 61440) × (61520 ≤ length (now out)) × (t .sort ≤ 3) × Kempt (length (now room)) t × (length (now room) ≡ base .limit) × (length (now tp) ≤ 131072) ⌝ }
+    requires { ⌜ Able base × Kept ten × (at < 61440) × (61520 ≤ length (now out)) × (t .sort ≤ 3) × Kempt (length (now room)) t × (length (now room) ≡ base .limit) × (length (now tp) ≤ 131072) × Book (now book) ⌝ }
     ensures { λ q. ⌜ Steady q at ⌝ }
     ensures { λ q. ⌜ PassesBy q t base stamp number (now (tp .entry)) (now (room .entry)) (now (out .entry)) at (now (room .exit)) (now (out .exit)) ⌝ }
 {
     if t.sort == track::LOST {
-        let n = track::dropped(base, tp);
+        let n = track::dropped(book, base, tp);
         if n == 1 {
             return as_left(DONE, 0, 0, t, ten, at);
         }
@@ -266,10 +292,10 @@ fn pass(
             return as_left(DONE, 0, 0, t, ten, at);
         }
     }
-    let Top::Says { low, offset } = lane::top(base, tp) else {
+    let Top::Says { low, offset } = track::top(book, base, tp) else {
         return as_left(ALL, 0, 0, t, ten, at);
     };
-    payload(t, low, offset, stamp, ten, number, tp, room, out, at)
+    payload(book, t, low, offset, stamp, ten, number, tp, room, out, at)
 }
 
 fn stage_of(left: usize, offset: usize) -> Stage
@@ -285,8 +311,15 @@ fn stage_of(left: usize, offset: usize) -> Stage
 }
 
 // Takes the whole TPs of the input block as long as the receiver is in a track, while the output block has room.
-pub fn pass_all(first: Run, till: usize, block: &[u8], room: &mut [u8], out: &mut [u8]) -> Run
-    requires { ⌜ Midway first till (length (now block)) (length (now out)) ⌝ }
+pub fn pass_all(
+    book: &[u16; 8192],
+    first: Run,
+    till: usize,
+    block: &[u8],
+    room: &mut [u8],
+    out: &mut [u8],
+) -> Run
+    requires { ⌜ Midway first till (length (now block)) (length (now out)) × Book (now book) ⌝ }
     ensures { λ r. ⌜ Ahead first till r ⌝ }
     ensures { λ r. ⌜ Listed till (now (block .entry)) first (now (room .entry)) (now (out .entry)) r (now (room .exit)) (now (out .exit)) ⌝ }
 {
@@ -318,7 +351,7 @@ pub fn pass_all(first: Run, till: usize, block: &[u8], room: &mut [u8], out: &mu
             number: counted,
             byte: 0,
         };
-        let p = pass(base, t, stamp, ten, done + 1, tp, room, out, at);
+        let p = pass(book, base, t, stamp, ten, done + 1, tp, room, out, at);
         at = p.at;
         ten = p.ten;
         t = p.track;

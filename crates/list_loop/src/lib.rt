@@ -3,6 +3,7 @@
 ghost use mathlib.Core.Path.{_≡_};
 ghost use Prim.Native.Nat.{_≤_};
 ghost use lib.ListN.{length};
+ghost use Rattle.golay.specs.Book.{Book};
 ghost use Rattle.list_loop.specs.Running.{Fit, Onward, Ready, Ahead, Found, Does, Listed};
 ghost use Rattle.list_loop.specs.Whole.{Begins, settingOf};
 
@@ -108,14 +109,21 @@ fn turn(run: Run, said: Record, data: &[u8], room: &mut [u8], out: &mut [u8]) ->
 }
 
 // Takes the whole records of the input block, while the output block has room: TPs by tracks, and by calls what those leave.
-fn turns(first: Run, till: usize, block: &[u8], room: &mut [u8], out: &mut [u8]) -> Run
-    requires { ⌜ Ready first till (length (now block)) (length (now out)) ⌝ }
+fn turns(
+    book: &[u16; 8192],
+    first: Run,
+    till: usize,
+    block: &[u8],
+    room: &mut [u8],
+    out: &mut [u8],
+) -> Run
+    requires { ⌜ Ready first till (length (now block)) (length (now out)) × Book (now book) ⌝ }
     ensures { λ r. ⌜ Ahead first till r ⌝ }
     ensures { λ r. ⌜ Listed till (now (block .entry)) first (now (room .entry)) (now (out .entry)) r (now (room .exit)) (now (out .exit)) ⌝ }
 {
     let mut run = first;
     while run.at < FULL {
-        run = lanes::pass_all(run, till, block, room, out);
+        run = lanes::pass_all(book, run, till, block, room, out);
         let from = run.from;
         let unread = &block[from..till];
         let AtHand::Whole(said) = house::read_record(Place::Listing, unread) else {
@@ -131,16 +139,23 @@ fn turns(first: Run, till: usize, block: &[u8], room: &mut [u8], out: &mut [u8])
 }
 
 // Takes block after block.
-fn blocks(first: Run, input: Unread, block: &mut [u8], room: &mut [u8], out: &mut [u8])
+fn blocks(
+    book: &[u16; 8192],
+    first: Run,
+    input: Unread,
+    block: &mut [u8],
+    room: &mut [u8],
+    out: &mut [u8],
+)
     requires { ⌜ Ready first (input .till) (length (now block)) (length (now out)) ⌝ }
-    requires { ⌜ Begins (settingOf (first .receiver)) first (now room) (now out) ⌝ }
+    requires { ⌜ Begins (settingOf (first .receiver)) first (now room) (now out) × Book (now book) ⌝ }
 {
     let mut run = first;
     let mut gone = input.gone;
     let mut till = input.till;
     let mut left = BLOCKS;
     while 0 < left {
-        run = turns(run, till, block, room, out);
+        run = turns(book, run, till, block, room, out);
         let from = run.from;
         let unread = Unread { gone, from, till };
         let More::Read(next) = console::go_on(b"c7list", Place::Listing, block, unread, out, run.at)
@@ -171,6 +186,9 @@ fn list(setup: Setup, unread: Unread, block: &mut [u8])
         console::stop(b"c7list", 0, Fault::Limits);
         return;
     };
+    // The code's tables, filled once: a word is then read by one load.
+    let mut book = [0u16; 8192];
+    golay::book::fill(&mut book);
     let mut out = [0u8; 65536];
     let at = listing::header(&mut out, 0);
     let from = unread.from;
@@ -181,7 +199,7 @@ fn list(setup: Setup, unread: Unread, block: &mut [u8])
         at,
         from,
     };
-    blocks(run, unread, block, &mut room, &mut out);
+    blocks(&book, run, unread, block, &mut room, &mut out);
 }
 
 // From standard input to standard output.

@@ -25,6 +25,7 @@ pub mod Bringing
 pub mod Eventing
 pub mod Pinned
 pub mod Pulling
+pub mod Owning
 pub mod Rest
 pub mod ByList
 pub mod Whole

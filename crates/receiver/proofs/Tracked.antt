@@ -6,23 +6,27 @@ use native.Mathlib.Nat.{mod-eq-of-lt}
 use native.Mathlib.Omega.{arith}
 use lib.Dec.{eqb}
 use borrow.Author.Tests.{eqb-true, ne-eqb}
+use Rattle.wire.specs.declared.Header.{Header}
 use Rattle.receiver.specs.declared.Place.{Place}
 use Rattle.receiver.specs.declared.Receiver.{Receiver}
 use Rattle.receiver.specs.declared.Stage.the-variants.{Fresh}
 use Rattle.receiver.specs.declared.lane.Lane.{Lane}
 use Rattle.receiver.specs.declared.lane.Lane.the-variants as L
+use Rattle.receiver.specs.declared.kind.Kind.the-variants.{Complete}
 use Rattle.receiver.specs.declared.track.Track.{Track}
-use Rattle.receiver.specs.declared.walk.Kept.the-variants.{Empty}
+use Rattle.receiver.specs.declared.walk.Kept.{Kept}
+use Rattle.receiver.specs.declared.walk.Kept.the-variants.{Empty, Of}
 use Rattle.receiver.specs.declared.walk.Phase.{Phase}
-use Rattle.receiver.specs.declared.walk.Phase.the-variants.{Head, Lost}
+use Rattle.receiver.specs.declared.walk.Phase.the-variants.{Body, Head, Lost}
 use Rattle.receiver.specs.declared.walk.Walk.{Walk}
-use Rattle.receiver.specs.InLanes.{StandsAs}
-use Rattle.receiver.specs.InTracks.{UnkeptAs}
+use Rattle.receiver.specs.InLanes.{FitsIf, StandsAs}
+use Rattle.receiver.specs.InTracks.{KeptAs, UnkeptAs}
+use Rattle.receiver.specs.Kind.{kindOf}
 use Rattle.receiver.specs.Lanes.{LanedAs, Tidy}
-use Rattle.receiver.specs.State.{Settled}
-use Rattle.receiver.specs.Tracks.{Kempt, TracksAs, laneIn, placeIn}
+use Rattle.receiver.specs.State.{Fine, Settled}
+use Rattle.receiver.specs.Tracks.{Kempt, Own, OwnIn, TracksAs, laneIn, placeIn}
 use Rattle.receiver.specs.Turns.{walkAt}
-use Rattle.receiver.proofs.Laned.{laned, unkept-cut, unkept-idle}
+use Rattle.receiver.proofs.Laned.{kept-busy, laned, unkept-cut, unkept-idle}
 
 -- laneIn, with the sort by itself
 abbrev laneBy : Track → ℕ → Lane
@@ -77,6 +81,31 @@ module _ (t : Track) where
 
   pub tracks-unkept : (r : Receiver) (w : Walk) → r .stage ≡ Fresh → r .walk ≡ w → UnkeptAs t w → TracksAs t r
   tracks-unkept r w s e u = record { sort = u .sort; flips = u .flips; lane = laned r w s e (laneIn t) (u .lane (r .limit)) }
+
+  pub tracks-kept : (r : Receiver) (p : Phase) (g : Place) (len c e : ℕ) (b : Place) → r .stage ≡ Fresh → r .walk ≡ walkAt 0 p g (Of c e b len)
+      → Settled p → Fine (r .limit) p (Of c e b len) → OwnIn g p (Of c e b len) → KeptAs t p g len (r .limit) → TracksAs t r
+  tracks-kept r p g len c e b s w y z o k = record { sort = k .sort; flips = k .flips; lane = laned r _ s w (laneIn t) (k .lane c e b y z o) }
+
+  pub kept-none : (p : Phase) (g : Place) (len cap : ℕ) → t .sort ≡ 4 → t .flips ≡ 0 → KeptAs t p g len cap
+  kept-none p g len cap e f = record {
+    sort = omega (arith, e);
+    flips = omega (arith, f);
+    lane = λ c d b y z o. subst (λ (l : Lane). StandsAs cap l (walkAt 0 p g (Of c d b len))) (sym (lane-none e)) (omega arith);
+  }
+
+  -- the data of a complete EP are its own
+  pub kept-own : (p : Phase) (g : Place) (len cap : ℕ) (h : Header) (left : ℕ) → p ≡ Body h left → FitsIf true h cap
+      → t .sort ≡ 3 → t .flips ≡ h .flips → h .flips < 256 → laneIn t ≡ L.Busy g left len (h .content) (h .flips) → KeptAs t p g len cap
+  kept-own p g len cap h left i f sort flips small lane =
+      record {
+        sort = omega (arith, sort);
+        flips = omega (arith, flips, small);
+        lane = λ c e b y z o.
+            (let own : 0 < left → kindOf h ≡ Complete → Own g h left c e b len = subst (λ (x : Phase). OwnIn g x (Of c e b len)) i o in
+            let w = own (subst Settled i y) (f .0) in
+            subst (λ (x : Lane). StandsAs cap x (walkAt 0 p g (Of c e b len))) (ap (λ (x : ℕ). L.Busy g left len x (h .flips)) (w .content) ∙ sym lane)
+            (kept-busy cap p g h left i c e b len y z f (sym (w .content)) (sym (w .flips)) (w .size) (sym (w .place))));
+      }
 
   unkept-as : (w : Walk) (l : Lane) → t .sort ≤ 4 → t .flips ≡ 0 → laneIn t ≡ l → ((cap : ℕ) → StandsAs cap l w) → UnkeptAs t w
   unkept-as w l s f e stands = record { sort = s; flips = omega (arith, f); lane = λ cap. subst (λ (x : Lane). StandsAs cap x w) (sym e) (stands cap) }

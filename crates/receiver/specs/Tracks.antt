@@ -7,6 +7,7 @@ use mathlib.Core.Logic.{_⊎_}
 use lib.Dec.{eqb}
 use lib.ListN.{length, take, drop}
 use Rattle.digits.specs.Digits.{number}
+use Rattle.wire.specs.declared.Header.{Header}
 use Rattle.queue.specs.Ring.{copied}
 use Rattle.receiver.specs.declared.Find.the-variants as F
 use Rattle.receiver.specs.declared.Place.{Place}
@@ -15,13 +16,18 @@ use Rattle.receiver.specs.declared.Stage.the-variants.{Fresh}
 use Rattle.receiver.specs.declared.Stamp.{Stamp}
 use Rattle.receiver.specs.declared.lane.Lane.{Lane}
 use Rattle.receiver.specs.declared.lane.Lane.the-variants as L
-use Rattle.receiver.specs.declared.lane.Met.{Met}
 use Rattle.receiver.specs.declared.lane.Met.the-variants as M
 use Rattle.receiver.specs.declared.low.Lows.the-variants as W
 use Rattle.receiver.specs.declared.track.Track.{Track}
 use Rattle.receiver.specs.declared.track.Sight.{Sight}
 use Rattle.receiver.specs.declared.track.Onto.{Onto}
 use Rattle.receiver.specs.declared.track.Brief.{Brief}
+use Rattle.receiver.specs.declared.kind.Kind.the-variants.{Complete}
+use Rattle.receiver.specs.declared.walk.Kept.{Kept}
+use Rattle.receiver.specs.declared.walk.Kept.the-variants.{Empty, Of}
+use Rattle.receiver.specs.declared.walk.Phase.{Phase}
+use Rattle.receiver.specs.declared.walk.Phase.the-variants.{Lost, Head, Judged, Body}
+use Rattle.receiver.specs.Kind.{kindOf}
 use Rattle.receiver.specs.Call.{Gives}
 use Rattle.receiver.specs.Lanes.{AheadAs, Drops, LanedAs, OutAs, Tidy, callBy, endsIn, inLane, stepTo}
 use Rattle.receiver.specs.Lows.{lowsOf}
@@ -60,6 +66,24 @@ turnedOf t s = record {
   content = t .content;
   flips = t .flips;
 }
+
+-- data that are kept of a complete EP are its own, from its first byte on
+pub record Own (g : Place) (h : Header) (n c e : ℕ) (p : Place) (k : ℕ) : Type 0 where
+  pub content : c ≡ h .content
+  pub flips : e ≡ h .flips
+  pub place : p ≡ g
+  pub size : h .size ≡ k + n
+
+abbrev pub OwnIn : Place → Phase → Kept → Type 0
+OwnIn g Lost x = 0 ≤ 0
+OwnIn g (Head n w) x = 0 ≤ 0
+OwnIn g (Judged h) x = 0 ≤ 0
+OwnIn g (Body h n) Empty = 0 ≤ 0
+OwnIn g (Body h n) (Of c e p k) = 0 < n → kindOf h ≡ Complete → Own g h n c e p k
+
+-- as calls leave a receiver
+abbrev pub Placed : Receiver → Type 0
+Placed r = OwnIn (r .walk .began) (r .walk .phase) (r .walk .kept)
 
 -- the track of a receiver before a TP, or none
 pub record TracksAs (t : Track) (r : Receiver) : Type 0 where

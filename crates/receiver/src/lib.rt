@@ -6,6 +6,7 @@ ghost use Rattle.receiver.specs.State.{Able};
 ghost use Rattle.receiver.specs.Call.{callAs, callOf, always, Gives, freshOf, gapOf, pendingOf, underWay, OpenedAs, dataOf, lasts};
 ghost use Rattle.receiver.specs.Turn.{goesOn, TurnedAs};
 
+mod by_book;
 mod entry;
 mod judge;
 mod kind;

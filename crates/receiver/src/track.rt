@@ -7,20 +7,23 @@ ghost use Prim.Native.Nat.{_+_, _-_, _≤_, _<_, _^_};
 ghost use lib.Dec.{leb};
 ghost use lib.ListN.{length, take, drop};
 ghost use Rattle.digits.specs.Digits.{number};
+ghost use Rattle.golay.specs.Book.{Book};
 ghost use Rattle.wire.specs.Reading.{headerIn, readOf};
 ghost use Rattle.wire.specs.declared.Read.the-variants.{Beyond};
 ghost use Rattle.receiver.specs.State.{Able, Settled};
 ghost use Rattle.receiver.specs.declared.lane.Lane.the-variants as L;
 ghost use Rattle.receiver.specs.declared.walk.Kept.the-variants.{Empty};
 ghost use Rattle.receiver.specs.Turns.{walkAt};
-ghost use Rattle.receiver.specs.Lanes.{inLane};
-ghost use Rattle.receiver.specs.InTracks.{UnkeptAs, sightOf};
-ghost use Rattle.receiver.specs.Tracks.{placeIn, laneIn, Kempt, turnedOf, TracksAs, Seen, BehindAs, SetsOut, BriefAs, DroppedAs, FilledIf};
+ghost use Rattle.receiver.specs.Lanes.{inLane, topIn};
+ghost use Rattle.receiver.specs.InTracks.{UnkeptAs, KeptAs, sightOf};
+ghost use Rattle.receiver.specs.Tracks.{Placed, placeIn, laneIn, Kempt, turnedOf, TracksAs, Seen, BehindAs, SetsOut, BriefAs, DroppedAs, FilledIf};
 use crate::Place;
 use crate::Receiver;
 use crate::Stage;
 use crate::Stamp;
+use crate::by_book;
 use crate::entry;
+pub use crate::entry::Top;
 use crate::lane;
 use crate::lane::Lane;
 use crate::low;
@@ -34,6 +37,7 @@ use crate::walk::Phase;
 use golay::End;
 use wire::Header;
 use wire::Read;
+use wire::TpWord;
 
 // The sorts of a track: those of a lane, and none.
 pub const LOST: usize = 0;
@@ -202,9 +206,24 @@ fn unkept(phase: Phase, began: Place) -> Track
     }
 }
 
-// The track of a receiver before a TP, where nothing is kept.
+// With so many data of a complete EP kept. They are its own.
+fn kept_of(phase: Phase, began: Place, len: usize, cap: usize) -> Track
+    ensures { λ q. ⌜ KeptAs q phase began len cap ⌝ }
+{
+    let Phase::Body { header, left } = phase else {
+        return plain(NONE);
+    };
+    if !stride::fits(header, cap) {
+        return plain(NONE);
+    }
+    let content = header.content as usize;
+    let flips = header.flips as usize;
+    busy(plain(BUSY), began, left, len, content, flips)
+}
+
+// The track of a receiver before a TP, where nothing is kept, or data of a complete EP.
 pub fn of(r: Receiver) -> Track
-    requires { ⌜ Able r ⌝ }
+    requires { ⌜ Able r × Placed r ⌝ }
     ensures { λ q. ⌜ TracksAs q r ⌝ }
 {
     let stage = r.stage;
@@ -218,10 +237,15 @@ pub fn of(r: Receiver) -> Track
     let phase = w.phase;
     let began = w.began;
     let kept = w.kept;
-    let Kept::Empty = kept else {
-        return plain(NONE);
-    };
-    unkept(phase, began)
+    match kept {
+        Kept::Empty => unkept(phase, began),
+        Kept::Of {
+            content: _,
+            repaired: _,
+            began: _,
+            len,
+        } => kept_of(phase, began, len, r.limit),
+    }
 }
 
 fn lane_of(t: Track, cap: usize) -> Lane
@@ -284,16 +308,17 @@ fn unseen(sort: usize, from: usize) -> Sight
 }
 
 // What stands ahead of `start`, behind fill.
-pub fn ahead(start: usize, tp: &[u8], most: usize) -> Sight
+pub fn ahead(book: &[u16; 8192], start: usize, tp: &[u8], most: usize) -> Sight
+    requires { ⌜ Book (now book) ⌝ }
     requires { ⌜ start ≤ length (now tp) ⌝ }
     ensures { λ q. ⌜ Seen q start (now (tp .entry)) most ⌝ }
 {
-    let from = stride::past_fill(tp, start);
+    let from = by_book::past_fill(book, tp, start);
     let rest = tp.len() - from;
     if rest < 6 {
         return unseen(TAIL, from);
     }
-    let Read::Whole(h) = stride::read_at(tp, from) else {
+    let Read::Whole(h) = by_book::read_at(book, tp, from) else {
         return unseen(OFF, from);
     };
     if !stride::fits(h, most) {
@@ -376,7 +401,8 @@ fn from_busy(t: Track, offset: usize, here: usize, tp: &[u8], room: &mut [u8]) -
 }
 
 // The header that is cut, whole, if data follow it.
-fn head(t: Track, here: usize, tp: &[u8]) -> Read
+fn head(book: &[u16; 8192], t: Track, here: usize, tp: &[u8]) -> Read
+    requires { ⌜ Book (now book) ⌝ }
     requires { ⌜ (1 ≤ t .have) × (t .have ≤ 5) × (t .word < 256 ^ t .have) × (here ≤ length (now tp)) ⌝ }
     ensures { λ q. ⌜ q ≡ cond (leb (length (now (tp .entry)) - here) (6 - t .have)) Beyond (readOf (headerIn (number (t .word) (take (6 - t .have) (drop here (now (tp .entry))))))) ⌝ }
 {
@@ -385,15 +411,22 @@ fn head(t: Track, here: usize, tp: &[u8]) -> Read
     if tp.len() - here <= missing {
         return Read::Beyond;
     }
-    wire::read_header(walk::gather(tp, here, missing, have, t.word))
+    wire::book::read_header(book, walk::gather(tp, here, missing, have, t.word))
 }
 
 // A cut header is read on.
-fn from_cut(t: Track, offset: usize, here: usize, tp: &[u8], room: &mut [u8]) -> Onto
-    requires { ⌜ Kempt (length (now room)) t × (t .sort ≡ 2) × (offset < 2048) × (here ≤ length (now tp)) × (length (now tp) ≤ 2051) ⌝ }
+fn from_cut(
+    book: &[u16; 8192],
+    t: Track,
+    offset: usize,
+    here: usize,
+    tp: &[u8],
+    room: &mut [u8],
+) -> Onto
+    requires { ⌜ Kempt (length (now room)) t × (t .sort ≡ 2) × (offset < 2048) × (here ≤ length (now tp)) × (length (now tp) ≤ 2051) × Book (now book) ⌝ }
     ensures { λ q. ⌜ SetsOut q t offset here (now (tp .entry)) (now (room .entry)) (now (room .exit)) ⌝ }
 {
-    let Read::Whole(h) = head(t, here, tp) else {
+    let Read::Whole(h) = head(book, t, here, tp) else {
         return out_with(OFF, 0, t);
     };
     let start = here + 6 - t.have;
@@ -437,8 +470,15 @@ fn from_cut(t: Track, offset: usize, here: usize, tp: &[u8], room: &mut [u8]) ->
 
 // Sets about a TP's ordinary bytes, from `here` on. In a TP of more than 2051 bytes offset 2047, by which no EP begins, would be a place;
 // at the payload's end none begins.
-pub fn set_out(t: Track, offset: usize, here: usize, tp: &[u8], room: &mut [u8]) -> Onto
-    requires { ⌜ Kempt (length (now room)) t × (t .sort ≤ 3) × (offset < 2048) × (4 ≤ here) × (here ≤ length (now tp)) × (length (now tp) ≤ 131072) ⌝ }
+pub fn set_out(
+    book: &[u16; 8192],
+    t: Track,
+    offset: usize,
+    here: usize,
+    tp: &[u8],
+    room: &mut [u8],
+) -> Onto
+    requires { ⌜ Kempt (length (now room)) t × (t .sort ≤ 3) × (offset < 2048) × (4 ≤ here) × (here ≤ length (now tp)) × (length (now tp) ≤ 131072) × Book (now book) ⌝ }
     ensures { λ q. ⌜ SetsOut q t offset here (now (tp .entry)) (now (room .entry)) (now (room .exit)) ⌝ }
 {
     if 2051 < tp.len() {
@@ -466,7 +506,7 @@ pub fn set_out(t: Track, offset: usize, here: usize, tp: &[u8], room: &mut [u8])
     if t.sort == BUSY {
         return from_busy(t, offset, here, tp, room);
     }
-    from_cut(t, offset, here, tp, room)
+    from_cut(book, t, offset, here, tp, room)
 }
 
 fn llep_of(found: bool, more: bool, h: Header) -> Brief
@@ -492,14 +532,15 @@ fn no_brief() -> Brief
 }
 
 // The LLEP at `at`, if it is a packet.
-pub fn llep_at(tp: &[u8], at: usize) -> Brief
+pub fn llep_at(book: &[u16; 8192], tp: &[u8], at: usize) -> Brief
+    requires { ⌜ Book (now book) ⌝ }
     requires { ⌜ at ≤ length (now tp) ⌝ }
     ensures { λ q. ⌜ BriefAs (q .found) q (now (tp .entry)) at ⌝ }
 {
     if tp.len() - at < 7 {
         return no_brief();
     }
-    let Read::Whole(h) = stride::read_at(tp, at) else {
+    let Read::Whole(h) = by_book::read_at(book, tp, at) else {
         return no_brief();
     };
     if tp.len() - at - 7 < h.size {
@@ -525,8 +566,8 @@ pub fn llep_at(tp: &[u8], at: usize) -> Brief
 
 // Out of step, what a TP comes to in which no EP begins: 1 for nothing, or its notice; 0 where it is to be read. The code word of 2047 leaves at
 // once.
-pub fn dropped(r: Receiver, tp: &[u8]) -> usize
-    requires { ⌜ Able r ⌝ }
+pub fn dropped(book: &[u16; 8192], r: Receiver, tp: &[u8]) -> usize
+    requires { ⌜ Able r × Book (now book) ⌝ }
     ensures { λ n. ⌜ DroppedAs n r (now (tp .entry)) ⌝ }
 {
     if tp.len() != r.size {
@@ -539,7 +580,7 @@ pub fn dropped(r: Receiver, tp: &[u8]) -> usize
     if w == wire::NO_START {
         return 1;
     }
-    let wire::TpWord::Says { low, offset } = wire::read_tp_word(w) else {
+    let TpWord::Says { low, offset } = wire::book::read_tp_word(book, w) else {
         return 9;
     };
     if low {
@@ -575,4 +616,26 @@ pub fn is_fill(r: Receiver, tp: &[u8]) -> bool
         return false;
     }
     digits::from_three(tp[7], tp[8], tp[9]) == golay::encode((tp.len() - 10) as u16)
+}
+
+// What a TP's header says: of another stream, or the TP of another length; not to be read; or its flag and its offset.
+pub fn top(book: &[u16; 8192], r: Receiver, tp: &[u8]) -> Top
+    requires { ⌜ Book (now book) ⌝ }
+    requires { ⌜ Able r ⌝ }
+    ensures { λ q. ⌜ q ≡ topIn r (now (tp .entry)) ⌝ }
+{
+    if tp.len() != r.size {
+        return Top::Elsewhere;
+    }
+    let b = tp[0];
+    if b / 16 != r.stream {
+        return Top::Elsewhere;
+    }
+    if b % 4 != 0 {
+        return Top::Dropped(7);
+    }
+    match wire::book::read_tp_word(book, entry::tp_word(tp)) {
+        TpWord::Beyond => Top::Dropped(9),
+        TpWord::Says { low, offset } => Top::Says { low, offset },
+    }
 }

@@ -14,18 +14,18 @@ use Rattle.list_loop.proofs.blocks.Statement.{statement}
 use Rattle.list_loop.proofs.blocks.Tie as tie
 
 abbrev Inv-loop : tie.InvT-loop
-Inv-loop block₀ room₀ out₀ run₀ gone₀ till₀ left₀ t15 block room out run gone till left = (Ready run till (length block) (length out) × Comes (settingOf (run₀ .receiver)) till block run room out) × ((run .done + left * 131072 ≤ 9223372036854775808) × ((length block ≡ length block₀) × ((length room ≡ length room₀) × (length out ≡ length out₀))))
+Inv-loop book block₀ room₀ out₀ run₀ gone₀ till₀ left₀ t15 block room out run gone till left = (Ready run till (length block) (length out) × Comes (settingOf (run₀ .receiver)) till block run room out) × ((run .done + left * 131072 ≤ 9223372036854775808) × ((length block ≡ length block₀) × ((length room ≡ length room₀) × (length out ≡ length out₀))))
 
 abbrev μ-loop : tie.MeasureT-loop
-μ-loop block₀ room₀ out₀ run₀ gone₀ till₀ left₀ t15 block room out run gone till left = left
+μ-loop book block₀ room₀ out₀ run₀ gone₀ till₀ left₀ t15 block room out run gone till left = left
 
 loop-holds : tie.Need-loop-holds Inv-loop μ-loop
 loop-holds c =
     let p = c .before .before .before .pre in
-    ((p .0, begins (p .1)), (omega (arith, p .1 .done), (refl, (refl, refl))))
+    ((p .0, begins (p .1 .0)), (omega (arith, p .1 .0 .done), (refl, (refl, refl))))
 
 turns-requires : tie.Need-turns-requires Inv-loop μ-loop
-turns-requires c κs = c .before .before .before .before .loop .inv .0 .0
+turns-requires c κs = (c .before .before .before .before .loop .inv .0 .0, c .before .before .before .before .before .before .before .before .pre .1 .1)
 
 slice-aggregate-go-on : tie.Need-slice-aggregate-go-on Inv-loop μ-loop
 slice-aggregate-go-on c = search needs
@@ -68,6 +68,7 @@ loop-again c =
       (
         record {
           able = a .able;
+          placed = a .placed;
           ten = a .ten;
           room = omega (arith, r .room, c .before .before .before .before .before .before .before .before .before .before .before .before .out .given);
           from = m .from;

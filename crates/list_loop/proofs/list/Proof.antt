@@ -1,11 +1,11 @@
--- `list_loop::list` is safe: what `open` gives can be called, and the output block has its length.
+-- `list_loop::list` is safe: what `open` gives can be called and keeps nothing, the book is filled, and the output block has its length.
 -- Assumes nothing.
 use mathlib.Core.Path.{refl, subst}
 use native.Mathlib.Omega.{arith}
 use Rattle.listing.proofs.Heard.{header-held}
 use Rattle.receiver.specs.Call.{AbleIf}
 use borrow.Author.Needs.{needs}
-use Rattle.list_loop.proofs.Beginning.{begins}
+use Rattle.list_loop.proofs.Beginning.{begins, placed-first}
 use Rattle.list_loop.proofs.list.Statement.{statement}
 use Rattle.list_loop.proofs.list.Tie as tie
 
@@ -30,6 +30,9 @@ stop-requires c κs = search needs
 returns : tie.Need-returns
 returns c = search needs
 
+fill-requires : tie.Need-fill-requires
+fill-requires c κs = search needs
+
 slice-aggregate-header : tie.Need-slice-aggregate-header
 slice-aggregate-header c = search needs
 
@@ -47,19 +50,20 @@ slice-aggregate-blocks-2 c = search needs
 
 blocks-requires : tie.Need-blocks-requires
 blocks-requires c κs =
-    let p = c .before .before .before .before .before .before .before .before .before .before .before .before .before .pre in
-    let opened = c .before .before .before .before .before .before .before .before .before .before .«open» .ensures in
-    let is = c .before .before .before .before .before .before .before .before .receiver .given .1 in (
+    let p = c .before .before .before .before .before .before .before .before .before .before .before .before .before .before .before .before .pre in
+    let opened = c .before .before .before .before .before .before .before .before .before .before .before .before .before .«open» .ensures in
+    let is = c .before .before .before .before .before .before .before .before .before .before .before .receiver .given .1 in (
       record {
         able = subst AbleIf is (opened .able);
-        ten = c .before .before .before .first-ten .ensures;
+        placed = placed-first _ _ _ _ _ opened is;
+        ten = c .before .before .before .before .first-ten .ensures;
         room = omega arith;
         from = p .1 .0;
         end = p .1 .1;
         size = p .0;
         count = omega arith;
       },
-      begins _ _ _ _ _ _ opened is refl (header-held _ _ _ (omega arith) (c .before .before .before .before .before .header .ensures)),
+      (begins _ _ _ _ _ _ opened is refl (header-held _ _ _ (omega arith) (c .before .before .before .before .before .before .header .ensures)), c .before .before .before .before .before .before .before .before .fill .ensures),
     )
 
 same-length : tie.Need-same-length
@@ -79,6 +83,7 @@ list-spec =
     slice-aggregate-stop
     stop-requires
     returns
+    fill-requires
     slice-aggregate-header
     header-requires
     first-ten-requires

@@ -1,10 +1,12 @@
 -- `list_loop::turn` meets its contract: a TP passed over, one that is all data, a TP's finds, or a gap told.
 -- Assumes nothing.
-use mathlib.Core.Path.{refl}
+use mathlib.Core.Path.{refl, subst⁻¹}
 use mathlib.Core.Logic.{⊎-elim}
 use native.Mathlib.Omega.{arith}
-use Rattle.list_loop.proofs.Lists.{able-ended, does-found, does-told, found-ended}
+use Rattle.list_loop.proofs.Lists.{able-ended, does-found, does-told, found-ended, placed-ended}
+use Rattle.receiver.specs.Tracks.{Placed}
 use Rattle.receiver.proofs.PassingOver.{data-asked, data-gives, over-gives}
+use Rattle.receiver.proofs.Owning.{placed-gap}
 use borrow.Author.Needs.{needs}
 use Rattle.list_loop.proofs.turn.Statement.{statement}
 use Rattle.list_loop.proofs.turn.Tie as tie
@@ -36,6 +38,7 @@ returns c =
     let b = c .before .before .behind .ensures in (
       record {
         able = able-ended (a .«data» .now) (a .run) (a .room .now) (a .out .now) _ _ _ g _ b;
+        placed = placed-ended (a .«data» .now) (a .run) (a .room .now) (a .out .now) _ _ _ g (s .pre .able) (s .pre .placed) _ b;
         ten = s .pre .ten;
         held = omega arith;
         from = omega arith;
@@ -78,6 +81,7 @@ returns-2 c =
     let b = t .0 in (
       record {
         able = able-ended (a .«data» .now) (a .run) (a .room .now) (a .out .now) _ _ _ g _ b;
+        placed = placed-ended (a .«data» .now) (a .run) (a .room .now) (a .out .now) _ _ _ g (s .pre .able) (s .pre .placed) _ b;
         ten = s .pre .ten;
         held = omega arith;
         from = omega arith;
@@ -116,6 +120,7 @@ returns-4 c =
     let k = c .before .before .match .keys2 in (
       record {
         able = g .1;
+        placed = subst⁻¹ Placed (g .0) (placed-gap (a .run .receiver));
         ten = s .pre .ten;
         held = omega arith;
         from = omega arith;

@@ -11,16 +11,16 @@ use Rattle.list_loop.proofs.lanes.low_part.Statement.{statement}
 use Rattle.list_loop.proofs.lanes.low_part.Tie as tie
 
 abbrev Inv-loop : tie.InvT-loop
-Inv-loop number tp out₀ held at₀ ten₀ place₀ within₀ out at ten place within = Parts number tp out₀ held within place out at ten × (at < 61440)
+Inv-loop book number tp out₀ held at₀ ten₀ place₀ within₀ out at ten place within = Parts number tp out₀ held within place out at ten × (at < 61440)
 
 abbrev μ-loop : tie.MeasureT-loop
-μ-loop number tp out₀ held at₀ ten₀ place₀ within₀ out at ten place within = length tp - place
+μ-loop book number tp out₀ held at₀ ten₀ place₀ within₀ out at ten place within = length tp - place
 
 loop-holds : tie.Need-loop-holds Inv-loop μ-loop
 loop-holds c = let p = c .before .before .pre in (parts-first _ _ _ _ _ (p .0) (p .3), p .1)
 
 llep-at-requires : tie.Need-llep-at-requires Inv-loop μ-loop
-llep-at-requires c κs = c .before .loop .inv .0 .inside
+llep-at-requires c κs = (c .before .before .before .before .pre .5, c .before .loop .inv .0 .inside)
 
 cast-low-line : tie.Need-cast-low-line Inv-loop μ-loop
 cast-low-line c = omega (arith, brief-few (c .before .before .before .llep-at .result) (c .before .before .before .before .before .before .before .before .args .tp .now) (c .before .before .before .before .before .loop .place) (not-false (c .before .before .before .llep-at .result .found) (c .before .if1 .left)) (c .before .before .before .llep-at .ensures) .1)

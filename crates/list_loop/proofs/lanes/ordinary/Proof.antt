@@ -6,7 +6,7 @@ use Rattle.list_loop.proofs.lanes.ordinary.Statement.{statement}
 use Rattle.list_loop.proofs.lanes.ordinary.Tie as tie
 
 set-out-requires : tie.Need-set-out-requires
-set-out-requires c κs = let p = c .before .before .before .before .pre in (p .1 .4, p .1 .3, p .1 .2, p .1 .0, p .1 .1, p .0 .3)
+set-out-requires c κs = let p = c .before .before .before .before .pre in (p .1 .4, p .1 .3, p .1 .2, p .1 .0, p .1 .1, p .0 .3, p .1 .6)
 
 as-left-requires : tie.Need-as-left-requires
 as-left-requires c κs = search needs
@@ -34,7 +34,7 @@ run-on-requires c κs =
     let p = c .before .before .before .before .before .before .before .before .before .before .before .before .before .pre in
     let w = c .before .before .before .before .before .before .before .before .set-out in
     let x = onto-asks (w .result) _ _ _ _ _ _ (w .ensures) (onto-sort (w .result) (w .ensures .sort) (c .before .before .before .before .if1 .left) (c .before .before .if2 .left)) (p .1 .3) in
-    (p .0, (x .0, x .1, x .2, w .ensures .flips, p .1 .5))
+    (p .0, (x .0, x .1, x .2, w .ensures .flips, p .1 .5, p .1 .6))
 
 same-length-3 : tie.Need-same-length-3
 same-length-3 c = search needs

@@ -12,7 +12,7 @@ use Rattle.list_loop.proofs.lanes.pass.Statement.{statement}
 use Rattle.list_loop.proofs.lanes.pass.Tie as tie
 
 dropped-requires : tie.Need-dropped-requires
-dropped-requires c κs = c .before .before .before .before .before .pre .0
+dropped-requires c κs = let p = c .before .before .before .before .before .pre in (p .0, p .8)
 
 as-left-requires : tie.Need-as-left-requires
 as-left-requires c κs = search needs
@@ -61,7 +61,7 @@ returns-3 c =
     (steady-left _ _ _ _ (a .at) _ e (p .1) (omega arith) (omega arith) (p .4), passes-over _ (a .t) (a .base) (a .stamp) (a .number) (a .tp .now) (a .room .now) (a .out .now) (a .at) _ Idle e (lane-idle (a .t) (c .before .before .before .if4 .taken)) f)
 
 top-requires : tie.Need-top-requires
-top-requires c κs = c .before .before .before .before .before .before .before .pre .0
+top-requires c κs = let p = c .before .before .before .before .before .before .before .pre in (p .8, p .0)
 
 enum-known-low : tie.Need-enum-known-low
 enum-known-low c = search needs
@@ -81,7 +81,7 @@ payload-requires c κs =
     let a = c .before .before .before .before .before .before .before .before .before .before .before .before .before .args in
     let p = c .before .before .before .before .before .before .before .before .before .before .before .before .before .pre in
     let w = says (a .base) (a .tp .now) _ _ (sym (c .before .before .before .before .before .top .ensures) ∙ c .before .before .before .low .given .1) in
-    (p .1, p .2, p .3, omega (arith, w .0, p .0 .size), p .7, w .1, p .4, p .5)
+    (p .1, p .2, p .3, omega (arith, w .0, p .0 .size), p .7, w .1, p .4, p .5, p .8)
 
 same-length-2 : tie.Need-same-length-2
 same-length-2 c = search needs

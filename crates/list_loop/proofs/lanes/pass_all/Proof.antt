@@ -27,23 +27,23 @@ use Rattle.receiver.proofs.lane.room_of.Reads as room-of-reads
 use Rattle.receiver.proofs.lane.counted.Reads as counted-reads
 
 abbrev Inv-loop : tie.InvT-loop
-Inv-loop till block room₀ out₀ base t₀ count₀ done₀ ten₀ at₀ from₀ room out t count done ten at from =
+Inv-loop book till block room₀ out₀ base t₀ count₀ done₀ ten₀ at₀ from₀ room out t count done ten at from =
     Along till block (record { receiver = base; done = done₀; ten = ten₀; at = at₀; from = from₀ }) room₀ out₀ count t done ten at from room out
 
 abbrev μ-loop : tie.MeasureT-loop
-μ-loop till block room₀ out₀ base t₀ count₀ done₀ ten₀ at₀ from₀ room out t count done ten at from = till - from
+μ-loop book till block room₀ out₀ base t₀ count₀ done₀ ten₀ at₀ from₀ room out t count done ten at from = till - from
 
 of-requires : tie.Need-of-requires Inv-loop μ-loop
-of-requires c κs = c .before .before .before .before .pre .able
+of-requires c κs = let p = c .before .before .before .before .pre .0 in (p .able, p .placed)
 
 returns : tie.Need-returns Inv-loop μ-loop
-returns c = let p = c .before .before .before .before .before .before .before .pre in (record { able = p .able; ten = p .ten; from = omega arith; end = p .from; count = omega arith }, listed-none _ _ _ _ _)
+returns c = let p = c .before .before .before .before .before .before .before .pre .0 in (record { able = p .able; placed = p .placed; ten = p .ten; from = omega arith; end = p .from; count = omega arith }, listed-none _ _ _ _ _)
 
 room-of-requires : tie.Need-room-of-requires Inv-loop μ-loop
 room-of-requires c κs = search needs
 
 returns-2 : tie.Need-returns-2 Inv-loop μ-loop
-returns-2 c = let p = c .before .before .before .before .before .before .before .before .before .pre in (record { able = p .able; ten = p .ten; from = omega arith; end = p .from; count = omega arith }, listed-none _ _ _ _ _)
+returns-2 c = let p = c .before .before .before .before .before .before .before .before .before .pre .0 in (record { able = p .able; placed = p .placed; ten = p .ten; from = omega arith; end = p .from; count = omega arith }, listed-none _ _ _ _ _)
 
 count-of-requires : tie.Need-count-of-requires Inv-loop μ-loop
 count-of-requires c κs = search needs
@@ -51,17 +51,17 @@ count-of-requires c κs = search needs
 loop-holds : tie.Need-loop-holds Inv-loop μ-loop
 loop-holds c =
     let s = c .before .before .before .before .before .before .before .before .before .before .before in
-    along-first _ _ (s .args .first) _ _ _ (c .before .before .before .before .before .before .of .result) (c .before .before .before .before .before .before .of .ensures) (c .before .before .before .before .if1 .left) (c .before .count-of .ensures) (s .pre .ten) (s .pre .from)
+    along-first _ _ (s .args .first) _ _ _ (c .before .before .before .before .before .before .of .result) (c .before .before .before .before .before .before .of .ensures) (c .before .before .before .before .if1 .left) (c .before .count-of .ensures) (s .pre .0 .ten) (s .pre .0 .from)
     (omega (arith, c .before .before .before .room-of .ensures, c .before .before .if2 .left))
 
 sub-unread : tie.Need-sub-unread Inv-loop μ-loop
 sub-unread c = omega (arith, c .before .loop .inv .end)
 
 part-unread-start : tie.Need-part-unread-start Inv-loop μ-loop
-part-unread-start c = omega (arith, c .before .loop .inv .end, c .before .before .before .before .before .before .before .before .before .before .before .before .before .pre .end)
+part-unread-start c = omega (arith, c .before .loop .inv .end, c .before .before .before .before .before .before .before .before .before .before .before .before .before .pre .0 .end)
 
 part-unread-end : tie.Need-part-unread-end Inv-loop μ-loop
-part-unread-end c = omega (arith, c .before .loop .inv .end, c .before .before .before .before .before .before .before .before .before .before .before .before .before .pre .end)
+part-unread-end c = omega (arith, c .before .loop .inv .end, c .before .before .before .before .before .before .before .before .before .before .before .before .before .pre .0 .end)
 
 read-record-requires : tie.Need-read-record-requires Inv-loop μ-loop
 read-record-requires c κs = search needs
@@ -79,16 +79,16 @@ counted-requires : tie.Need-counted-requires Inv-loop μ-loop
 counted-requires c κs = search needs
 
 add-pass : tie.Need-add-pass Inv-loop μ-loop
-add-pass c = let i = c .before .before .before .before .before .before .before .before .before .before .loop .inv in let p = c .before .before .before .before .before .before .before .before .before .before .before .before .before .before .before .before .before .before .before .before .before .before .pre in omega (arith, i .count, i .end, p .count, p .end, p .size)
+add-pass c = let i = c .before .before .before .before .before .before .before .before .before .before .loop .inv in let p = c .before .before .before .before .before .before .before .before .before .before .before .before .before .before .before .before .before .before .before .before .before .before .pre .0 in omega (arith, i .count, i .end, p .count, p .end, p .size)
 
 pass-requires : tie.Need-pass-requires Inv-loop μ-loop
 pass-requires c κs =
     let s = c .before .before .before .before .before .before .before .before .before .before .before .before .before .before .before .before .before .before .before .before .before .before .before .before in
-    let p = s .pre in
+    let p = s .pre .0 in
     let l = c .before .before .before .before .before .before .before .before .before .before .before .before .loop in
     let i = l .inv in
     let w = data-within _ (s .args .block .now) _ (l .from) (s .args .till) _ (i .end) (sym (c .before .before .before .before .before .before .before .before .before .read-record .ensures) ∙ c .before .before .before .before .before .before .before .said .given .1) (c .before .before .before .data-of .ensures) in
-    (p .able, i .kept, c .before .before .before .before .before .before .before .before .before .before .before .loop-test .taken, omega (arith, p .room, i .long), i .sort, subst⁻¹ (λ (n : ℕ). Kempt n (l .t)) (i .full) (i .kempt), i .full, omega (arith, w, p .end, p .size))
+    (p .able, i .kept, c .before .before .before .before .before .before .before .before .before .before .before .loop-test .taken, omega (arith, p .room, i .long), i .sort, subst⁻¹ (λ (n : ℕ). Kempt n (l .t)) (i .full) (i .kempt), i .full, omega (arith, w, p .end, p .size), s .pre .1)
 
 stage-of-requires : tie.Need-stage-of-requires Inv-loop μ-loop
 stage-of-requires c κs = search needs
@@ -120,21 +120,21 @@ returns-3 c =
     (pause-ahead _ _ _ _ _ (l .count) (l .t) _ _ _ _ _ _ (l .inv) r _ _ _ _ _ (q .ensures .0) (q .ensures .1) refl (k .ensures) _ _ whole is tp more _ b, pause-listed _ _ _ _ _ (l .count) (l .t) _ _ _ _ _ _ (l .inv) r _ _ _ _ _ (q .ensures .0) (q .ensures .1) refl (k .ensures) _ _ whole is tp more _ b)
 
 add-done : tie.Need-add-done Inv-loop μ-loop
-add-done c = let i = c .before .before .before .before .before .before .before .before .before .before .before .before .before .before .before .before .before .before .before .before .before .before .before .loop .inv in let p = c .before .before .before .before .before .before .before .before .before .before .before .before .before .before .before .before .before .before .before .before .before .before .before .before .before .before .before .before .before .before .before .before .before .before .before .pre in omega (arith, i .count, i .end, p .count, p .end, p .size)
+add-done c = let i = c .before .before .before .before .before .before .before .before .before .before .before .before .before .before .before .before .before .before .before .before .before .before .before .loop .inv in let p = c .before .before .before .before .before .before .before .before .before .before .before .before .before .before .before .before .before .before .before .before .before .before .before .before .before .before .before .before .before .before .before .before .before .before .before .pre .0 in omega (arith, i .count, i .end, p .count, p .end, p .size)
 
 add-from : tie.Need-add-from Inv-loop μ-loop
 add-from c =
     let s = c .before .before .before .before .before .before .before .before .before .before .before .before .before .before .before .before .before .before .before .before .before .before .before .before .before .before .before .before .before .before .before .before .before .before .before in
     let l = c .before .before .before .before .before .before .before .before .before .before .before .before .before .before .before .before .before .before .before .before .before .before .before .loop in
     let w = data-within _ (s .args .block .now) _ (l .from) (s .args .till) _ (l .inv .end) (sym (c .before .before .before .before .before .before .before .before .before .before .before .before .before .before .before .before .before .before .before .before .read-record .ensures) ∙ c .before .before .before .before .before .before .before .before .before .before .before .before .before .before .before .before .before .before .said .given .1) (c .before .before .before .before .before .before .before .before .before .before .before .before .before .before .data-of .ensures) in
-    omega (arith, w, s .pre .end, s .pre .size)
+    omega (arith, w, s .pre .0 .end, s .pre .0 .size)
 
 add-from-2 : tie.Need-add-from-2 Inv-loop μ-loop
 add-from-2 c =
     let s = c .before .before .before .before .before .before .before .before .before .before .before .before .before .before .before .before .before .before .before .before .before .before .before .before .before .before .before .before .before .before .before .before .before .before .before in
     let l = c .before .before .before .before .before .before .before .before .before .before .before .before .before .before .before .before .before .before .before .before .before .before .before .loop in
     let w = data-within _ (s .args .block .now) _ (l .from) (s .args .till) _ (l .inv .end) (sym (c .before .before .before .before .before .before .before .before .before .before .before .before .before .before .before .before .before .before .before .before .read-record .ensures) ∙ c .before .before .before .before .before .before .before .before .before .before .before .before .before .before .before .before .before .before .said .given .1) (c .before .before .before .before .before .before .before .before .before .before .before .before .before .before .data-of .ensures) in
-    omega (arith, w, s .pre .end, s .pre .size)
+    omega (arith, w, s .pre .0 .end, s .pre .0 .size)
 
 loop-less : tie.Need-loop-less Inv-loop μ-loop
 loop-less c =
@@ -181,7 +181,7 @@ returns-4 : tie.Need-returns-4 Inv-loop μ-loop
 returns-4 c =
     let s = c .before .before .before .before .before .before .before .before .before .before .before .before .before .before in
     let a = along-out (c .before) in
-    (along-ahead _ _ _ _ _ _ _ _ _ _ _ _ _ a (s .pre .able) _ (c .back2 .ensures), along-listed _ _ _ _ _ _ _ _ _ _ _ _ _ a (s .pre .able) _ (c .back2 .ensures))
+    (along-ahead _ _ _ _ _ _ _ _ _ _ _ _ _ a (s .pre .0 .able) _ (c .back2 .ensures), along-listed _ _ _ _ _ _ _ _ _ _ _ _ _ a (s .pre .0 .able) _ (c .back2 .ensures))
 
 pub pass-all-spec : {M : Type 1} → statement M
 pass-all-spec =

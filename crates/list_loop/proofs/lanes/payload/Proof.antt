@@ -29,7 +29,7 @@ joined c =
     (c .if1 .came)
 
 low-part-requires : tie.Need-low-part-requires
-low-part-requires c κs = let p = c .before .before .before .before .before .pre in (p .0, p .1, p .2, p .3, p .4)
+low-part-requires c κs = let p = c .before .before .before .before .before .pre in (p .0, p .1, p .2, p .3, p .4, p .8)
 
 as-left-requires : tie.Need-as-left-requires
 as-left-requires c κs = search needs
@@ -71,7 +71,7 @@ ordinary-requires : tie.Need-ordinary-requires
 ordinary-requires c κs =
     let p = c .before .before .before .before .before .before .pre in
     let j = joined (c .before .before) in
-    ((j .0, j .1, omega (arith, j .6, p .2), p .4), (j .2, j .3, p .5, p .6, p .7, j .4))
+    ((j .0, j .1, omega (arith, j .6, p .2), p .4), (j .2, j .3, p .5, p .6, p .7, j .4, p .8))
 
 same-length-4 : tie.Need-same-length-4
 same-length-4 c = search needs

@@ -21,10 +21,10 @@ use Rattle.receiver.proofs.track.turned.Reads as turned-reads
 use Rattle.queue.proofs.copy_at.Reads as copy-at-reads
 
 abbrev Inv-loop : tie.InvT-loop
-Inv-loop offset left here stamp number tp room₀ out₀ held t at₀ ten₀ place₀ due₀ content₀ len₀ room out at ten place due content len = Head stamp number tp due₀ place₀ content₀ len₀ room₀ out₀ held due place content len room out at ten
+Inv-loop book offset left here stamp number tp room₀ out₀ held t at₀ ten₀ place₀ due₀ content₀ len₀ room out at ten place due content len = Head stamp number tp due₀ place₀ content₀ len₀ room₀ out₀ held due place content len room out at ten
 
 abbrev μ-loop : tie.MeasureT-loop
-μ-loop offset left here stamp number tp room₀ out₀ held t at₀ ten₀ place₀ due₀ content₀ len₀ room out at ten place due content len = length tp - place
+μ-loop book offset left here stamp number tp room₀ out₀ held t at₀ ten₀ place₀ due₀ content₀ len₀ room out at ten place due content len = length tp - place
 
 -- behind the line that was due, if one was
 joined : (c : lts.Joined1 (ordinary-line-reads.Asked, ordinary-line-reads.Learnt, turned-reads.Asked, turned-reads.Learnt, as-left-reads.Asked, as-left-reads.Learnt, ahead-reads.Asked, ahead-reads.Learnt, behind-reads.Asked, behind-reads.Learnt, copy-at-reads.Asked, copy-at-reads.Learnt) reads.Pre reads.Post Inv-loop μ-loop)
@@ -66,7 +66,7 @@ returns c =
     plain-led _ _ _ _ _ _ _ _ _ _ _ _ _ _ _ _ h (c .before .before .before .before .before .before .before .before .before .before .before .before .before .before .before .args .o .track) _ _ _ _ _ _ (c .before .before .before .before .before .before .before .before .if1 .taken) (c .before .turned .ensures) (c .before .before .before .before .before .before .before .before .before .before .before .before .before .before .before .pre .1 .3) (c .as-left .ensures)
 
 ahead-requires : tie.Need-ahead-requires Inv-loop μ-loop
-ahead-requires c κs = c .before .loop .inv .within
+ahead-requires c κs = (c .before .before .before .before .before .before .before .pre .1 .5, c .before .loop .inv .within)
 
 behind-requires : tie.Need-behind-requires Inv-loop μ-loop
 behind-requires c κs =

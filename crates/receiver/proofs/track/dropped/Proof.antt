@@ -28,7 +28,7 @@ tp-word-requires : tie.Need-tp-word-requires
 tp-word-requires c κs = search needs
 
 returns-3 : tie.Need-returns-3
-returns-3 c = word-over (c .before .before .before .before .before .before .before .before .args .r) (c .before .before .before .before .before .before .before .before .args .tp .now) (c .before .before .before .before .before .before .before .before .pre) (c .before .before .before .before .before .if1 .left) (c .before .before .if2 .left) _ (c .before .tp-word .ensures) (c .if3 .taken)
+returns-3 c = word-over (c .before .before .before .before .before .before .before .before .args .r) (c .before .before .before .before .before .before .before .before .args .tp .now) (c .before .before .before .before .before .before .before .before .pre .0) (c .before .before .before .before .before .if1 .left) (c .before .before .if2 .left) _ (c .before .tp-word .ensures) (c .if3 .taken)
 
 read-tp-word-requires : tie.Need-read-tp-word-requires
 read-tp-word-requires c κs = search needs
@@ -40,7 +40,7 @@ enum-told : tie.Need-enum-told
 enum-told c = search needs
 
 returns-4 : tie.Need-returns-4
-returns-4 c = beyond-told (c .before .before .before .before .before .before .before .before .before .before .before .args .r) (c .before .before .before .before .before .before .before .before .before .before .before .args .tp .now) (c .before .before .before .before .before .before .before .before .before .before .before .pre) (c .before .before .before .before .before .before .before .before .if1 .left) (c .before .before .before .before .before .if2 .left) _ (c .before .before .before .before .tp-word .ensures) _ (c .before .before .read-tp-word .ensures) (c .enum-told .given .1)
+returns-4 c = beyond-told (c .before .before .before .before .before .before .before .before .before .before .before .args .r) (c .before .before .before .before .before .before .before .before .before .before .before .args .tp .now) (c .before .before .before .before .before .before .before .before .before .before .before .pre .0) (c .before .before .before .before .before .before .before .before .if1 .left) (c .before .before .before .before .before .if2 .left) _ (c .before .before .before .before .tp-word .ensures) _ (c .before .before .read-tp-word .ensures) (c .enum-told .given .1)
 
 item-requires : tie.Need-item-requires
 item-requires c κs = search needs
@@ -49,7 +49,7 @@ enum-told-2 : tie.Need-enum-told-2
 enum-told-2 c = search needs
 
 returns-5 : tie.Need-returns-5
-returns-5 c = broken-told (c .before .before .before .before .before .before .before .before .before .before .before .before .before .before .before .before .args .r) (c .before .before .before .before .before .before .before .before .before .before .before .before .before .before .before .before .args .tp .now) (c .before .before .before .before .before .before .before .before .before .before .before .before .before .before .before .before .pre) (c .before .before .before .before .before .before .before .before .before .before .before .before .before .if1 .left) (c .before .before .before .before .before .before .before .before .before .before .if2 .left) _ (c .before .before .before .before .before .before .before .before .before .tp-word .ensures) _ (c .before .before .before .before .before .before .before .read-tp-word .ensures) _ _ (c .before .before .before .before .before .low .given .1) (c .before .before .before .if4 .taken) _ (c .before .before .item .ensures) (c .enum-told2 .given .1)
+returns-5 c = broken-told (c .before .before .before .before .before .before .before .before .before .before .before .before .before .before .before .before .args .r) (c .before .before .before .before .before .before .before .before .before .before .before .before .before .before .before .before .args .tp .now) (c .before .before .before .before .before .before .before .before .before .before .before .before .before .before .before .before .pre .0) (c .before .before .before .before .before .before .before .before .before .before .before .before .before .if1 .left) (c .before .before .before .before .before .before .before .before .before .before .if2 .left) _ (c .before .before .before .before .before .before .before .before .before .tp-word .ensures) _ (c .before .before .before .before .before .before .before .read-tp-word .ensures) _ _ (c .before .before .before .before .before .low .given .1) (c .before .before .before .if4 .taken) _ (c .before .before .item .ensures) (c .enum-told2 .given .1)
 
 enum-told-3 : tie.Need-enum-told-3
 enum-told-3 c = search needs
@@ -58,13 +58,13 @@ returns-6 : tie.Need-returns-6
 returns-6 c = undropped (c .before .before .before .before .before .before .before .before .before .before .before .before .before .before .before .before .args .r) (c .before .before .before .before .before .before .before .before .before .before .before .before .before .before .before .before .args .tp .now)
 
 returns-7 : tie.Need-returns-7
-returns-7 c = none-begins (c .before .before .before .before .before .before .before .before .before .before .before .before .before .before .args .r) (c .before .before .before .before .before .before .before .before .before .before .before .before .before .before .args .tp .now) (c .before .before .before .before .before .before .before .before .before .before .before .before .before .before .pre) (c .before .before .before .before .before .before .before .before .before .before .before .if1 .left) (c .before .before .before .before .before .before .before .before .if2 .left) _ (c .before .before .before .before .before .before .before .tp-word .ensures) _ (c .before .before .before .before .before .read-tp-word .ensures) _ _ (c .before .before .before .low .given .1) (c .before .if4 .left) (c .if5 .taken)
+returns-7 c = none-begins (c .before .before .before .before .before .before .before .before .before .before .before .before .before .before .args .r) (c .before .before .before .before .before .before .before .before .before .before .before .before .before .before .args .tp .now) (c .before .before .before .before .before .before .before .before .before .before .before .before .before .before .pre .0) (c .before .before .before .before .before .before .before .before .before .before .before .if1 .left) (c .before .before .before .before .before .before .before .before .if2 .left) _ (c .before .before .before .before .before .before .before .tp-word .ensures) _ (c .before .before .before .before .before .read-tp-word .ensures) _ _ (c .before .before .before .low .given .1) (c .before .if4 .left) (c .if5 .taken)
 
 add-if6 : tie.Need-add-if6
-add-if6 c = omega (arith, offset-small (c .before .before .before .before .before .before .before .before .before .before .before .before .before .before .args .r) (c .before .before .before .before .before .before .before .before .before .before .before .before .before .before .args .tp .now) (c .before .before .before .before .before .before .before .before .before .before .before .before .before .before .pre) (c .before .before .before .before .before .before .before .before .before .before .before .if1 .left) (c .before .before .before .before .before .before .before .before .if2 .left) _ (c .before .before .before .before .before .before .before .tp-word .ensures) _ (c .before .before .before .before .before .read-tp-word .ensures) _ _ (c .before .before .before .low .given .1))
+add-if6 c = omega (arith, offset-small (c .before .before .before .before .before .before .before .before .before .before .before .before .before .before .args .r) (c .before .before .before .before .before .before .before .before .before .before .before .before .before .before .args .tp .now) (c .before .before .before .before .before .before .before .before .before .before .before .before .before .before .pre .0) (c .before .before .before .before .before .before .before .before .before .before .before .if1 .left) (c .before .before .before .before .before .before .before .before .if2 .left) _ (c .before .before .before .before .before .before .before .tp-word .ensures) _ (c .before .before .before .before .before .read-tp-word .ensures) _ _ (c .before .before .before .low .given .1))
 
 returns-8 : tie.Need-returns-8
-returns-8 c = outside-told (c .before .before .before .before .before .before .before .before .before .before .before .before .before .before .before .args .r) (c .before .before .before .before .before .before .before .before .before .before .before .before .before .before .before .args .tp .now) (c .before .before .before .before .before .before .before .before .before .before .before .before .before .before .before .pre) (c .before .before .before .before .before .before .before .before .before .before .before .before .if1 .left) (c .before .before .before .before .before .before .before .before .before .if2 .left) _ (c .before .before .before .before .before .before .before .before .tp-word .ensures) _ (c .before .before .before .before .before .before .read-tp-word .ensures) _ _ (c .before .before .before .before .low .given .1) (c .before .before .if4 .left) (c .before .if5 .left) (c .if6 .taken)
+returns-8 c = outside-told (c .before .before .before .before .before .before .before .before .before .before .before .before .before .before .before .args .r) (c .before .before .before .before .before .before .before .before .before .before .before .before .before .before .before .args .tp .now) (c .before .before .before .before .before .before .before .before .before .before .before .before .before .before .before .pre .0) (c .before .before .before .before .before .before .before .before .before .before .before .before .if1 .left) (c .before .before .before .before .before .before .before .before .before .if2 .left) _ (c .before .before .before .before .before .before .before .before .tp-word .ensures) _ (c .before .before .before .before .before .before .read-tp-word .ensures) _ _ (c .before .before .before .before .low .given .1) (c .before .before .if4 .left) (c .before .if5 .left) (c .if6 .taken)
 
 returns-9 : tie.Need-returns-9
 returns-9 c = undropped (c .before .before .before .before .before .before .before .before .before .before .before .before .before .before .before .args .r) (c .before .before .before .before .before .before .before .before .before .before .before .before .before .before .before .args .tp .now)

@@ -15,7 +15,7 @@ head-requires : tie.Need-head-requires
 head-requires c κs =
     let s = c .before .before in
     let y = tidy-by (length (s .args .room .now)) (s .args .t) 2 (s .pre .0) (s .pre .1) in
-    (y .0, y .1, y .2, s .pre .3)
+    (s .pre .5, (y .0, y .1, y .2, s .pre .3))
 
 enum-known-h : tie.Need-enum-known-h
 enum-known-h c = search needs
@@ -97,8 +97,8 @@ part-copy-at-end c = search needs
 copy-at-requires : tie.Need-copy-at-requires
 copy-at-requires c κs = search needs
 
-cast-t17 : tie.Need-cast-t17
-cast-t17 c = search needs
+cast-t18 : tie.Need-cast-t18
+cast-t18 c = search needs
 
 same-length : tie.Need-same-length
 same-length c = search needs
@@ -212,7 +212,7 @@ from-cut-spec =
     part-copy-at-start
     part-copy-at-end
     copy-at-requires
-    cast-t17
+    cast-t18
     same-length
     returns-5
     out-with-requires-5

@@ -1,9 +1,10 @@
--- `receiver::track::of` meets its contract: before a TP, where nothing is kept. Assumes nothing.
+-- `receiver::track::of` meets its contract: before a TP, by what is kept. Assumes nothing.
 use mathlib.Core.Path.{subst}
 use Rattle.receiver.specs.declared.Stage.{Stage}
-use Rattle.receiver.specs.State.{Staged}
+use Rattle.receiver.specs.State.{Fine, Staged}
+use Rattle.receiver.specs.Tracks.{OwnIn}
 use Rattle.receiver.proofs.Laned.{walk-is}
-use Rattle.receiver.proofs.Tracked.{tracks-none, tracks-unkept}
+use Rattle.receiver.proofs.Tracked.{tracks-kept, tracks-none, tracks-unkept}
 use borrow.Author.Needs.{needs}
 use Rattle.receiver.proofs.track.of.Statement.{statement}
 use Rattle.receiver.proofs.track.of.Tie as tie
@@ -26,24 +27,31 @@ returns-2 c = let e = c .plain2 .ensures in tracks-none (c .plain2 .result) (c .
 enum-told-2 : tie.Need-enum-told-2
 enum-told-2 c = search needs
 
-enum-told-3 : tie.Need-enum-told-3
-enum-told-3 c = search needs
-
-plain-requires-3 : tie.Need-plain-requires-3
-plain-requires-3 c κs = search needs
-
-returns-3 : tie.Need-returns-3
-returns-3 c = let e = c .plain3 .ensures in tracks-none (c .plain3 .result) (c .before .before .before .before .before .before .before .before .before .args .r) (e .0) (e .1)
-
 unkept-requires : tie.Need-unkept-requires
 unkept-requires c κs =
     let s = c .before .before .before .before .before .before .before .before in
-    subst (λ (g : Stage). Staged g (s .args .r .walk)) (c .before .before .before .before .before .before .enum-told .given .1) (s .pre .stage)
+    subst (λ (g : Stage). Staged g (s .args .r .walk)) (c .before .before .before .before .before .before .enum-told .given .1) (s .pre .0 .stage)
+
+enum-known-kept : tie.Need-enum-known-kept
+enum-known-kept c = search needs
+
+kept-of-requires : tie.Need-kept-of-requires
+kept-of-requires c κs = search needs
+
+returns-3 : tie.Need-returns-3
+returns-3 c =
+    let r = c .before .before .before .before .before .before .before .before .before .args .r in
+    tracks-unkept (c .unkept .result) r _ (c .before .before .before .before .before .before .before .enum-told .given .1) (walk-is (r .walk) _ (c .before .before .before .before .if1 .left) (c .before .enum-told2 .given .1)) (c .unkept .ensures)
 
 returns-4 : tie.Need-returns-4
 returns-4 c =
-    let r = c .before .before .before .before .before .before .before .before .before .args .r in
-    tracks-unkept (c .unkept .result) r _ (c .before .before .before .before .before .before .before .enum-told .given .1) (walk-is (r .walk) _ (c .before .before .before .before .if1 .left) (c .before .enum-told2 .given .1)) (c .unkept .ensures)
+    let s = c .before .before .before .before .before .before .before .before .before .before in
+    let r = s .args .r in
+    let w = r .walk in
+    let fresh = c .before .before .before .before .before .before .before .before .enum-told .given .1 in
+    let k = c .before .before .kept .given .1 in
+    tracks-kept (c .kept-of .result) r (w .phase) (w .began) _ _ _ _ fresh (walk-is w _ (c .before .before .before .before .before .if1 .left) k) (subst (λ (g : Stage). Staged g w) fresh (s .pre .0 .stage))
+    (subst (Fine (r .limit) (w .phase)) k (s .pre .0 .walk .phase)) (subst (OwnIn (w .began) (w .phase)) k (s .pre .1)) (c .kept-of .ensures)
 
 pub of-spec : {M : Type 1} → statement M
 of-spec =
@@ -55,8 +63,8 @@ of-spec =
     plain-requires-2
     returns-2
     enum-told-2
-    enum-told-3
-    plain-requires-3
-    returns-3
     unkept-requires
+    enum-known-kept
+    kept-of-requires
+    returns-3
     returns-4)
