@@ -41,6 +41,12 @@ parts s k = rw (take-all (length s - k) (drop k s) (omega (arith, length-drop k 
 pub paste-part : (d s : List ℕ) (at k : ℕ) → k ≤ length s → paste d at s k ≡ paste d at (take k s) (length (take k s))
 paste-part d s at k p = rw (length-take-le k s p, take-take k k s (omega arith))
 
+-- a paste by way of another list's first elements
+pub paste-by : (d o s o′ d′ : List ℕ) (at n : ℕ) → n ≤ length s → o′ ≡ paste o 0 s n → d′ ≡ paste d at o′ n → d′ ≡ paste d at s n
+paste-by d o s o′ d′ at n p e f =
+    let same : take n o′ ≡ take n s = ap (take n) e ∙ take-at (take n s) (drop (0 + n) o) n (length-take-le n s p) in
+    f ∙ ap (λ (x : List ℕ). take at d ++ x ++ drop (at + n) d) same
+
 -- a whole list pasted over, in one run and in two
 pub over : (d s d′ : List ℕ) → length s ≡ length d → d′ ≡ paste d 0 s (length s) → d′ ≡ s
 over d s d′ e f = f ∙ rw (take-length, zero-add, e, drop-length) (append-nil s)

@@ -172,16 +172,15 @@ module _ (b s : List ℕ) (q : Ring) (w : Kept b q) (p : length s ≤ length b -
           e₂ ∙ ap (paste b₁ 0 (take (length s - k) (drop k s))) z ∙ sym (paste-zero b₁ 0 (take (length s - k) (drop k s))) ∙ e₁ ∙ ap (paste b at s) l
 
 module _ (b d : List ℕ) (q : Ring) (w : Kept b q) (p : length d ≤ q .len) where
-  pub read-one : (d′ : List ℕ) → length d ≤ length b - q .head → d′ ≡ copied d 0 (take (q .head + length d - q .head) (drop (q .head) b)) → d′ ≡ take (length d) (held b q)
+  pub read-one : (d′ : List ℕ) → length d ≤ length b - q .head → d′ ≡ paste d 0 (take (length b - q .head) (drop (q .head) b)) (length d) → d′ ≡ take (length d) (held b q)
   unfolding held around
   read-one d′ r f =
       let h = q .head in
       let n = length d in
-      let e : h + n - h ≡ n = omega arith in
       let k : n ≤ length (drop h b) = omega (arith, length-drop h b) in
-      let s : List ℕ = take (h + n - h) (drop h b) in
-      let m : length s ≡ n = rw e (length-take-le n (drop h b) k) in
-      over d s d′ m (f ∙ copied-all d s 0 (omega arith)) ∙ rw (e, take-take n (q .len) (drop h b ++ take h b) p, take-append-le n (drop h b) (take h b) k)
+      let e : take (length b - h) (drop h b) ≡ drop h b = take-all (length b - h) (drop h b) (omega (arith, length-drop h b)) in
+      over d (take n (drop h b)) d′ (length-take-le n (drop h b) k) (f ∙ ap (λ (s : List ℕ). paste d 0 s n) e ∙ paste-part d (drop h b) 0 n k)
+      ∙ rw (take-take n (q .len) (drop h b ++ take h b) p, take-append-le n (drop h b) (take h b) k)
 
   pub read-two : (d₁ d₂ : List ℕ) → length b - q .head < length d → d₁ ≡ copied d 0 (take (length b - q .head) (drop (q .head) b))
       → d₂ ≡ copied d₁ (length b - q .head) (take (length d - (length b - q .head) - 0) b) → d₂ ≡ take (length d) (held b q)

@@ -48,12 +48,35 @@ fn copy_run(dst: &mut [u8], at: usize, src: &[u8], n: usize)
     }
 }
 
+// The same by way of bytes of its own. Where src and dst come from a caller the compiler can't see that they lie apart, and copies them
+// in small steps; its own bytes lie apart from both, so it makes one memmove of the two copies, and leaves its own bytes out.
+fn move_run(dst: &mut [u8], at: usize, src: &[u8], n: usize)
+    requires { ⌜ (n ≤ length (now dst) - at) × (n ≤ length (now src)) × (n ≤ 65536) ⌝ }
+    ensures { λ _. ⌜ now (dst .exit) ≡ paste (now (dst .entry)) at (now (src .entry)) n ⌝ }
+{
+    let mut own = [0u8; 65536];
+    copy_run(&mut own, 0, src, n);
+    copy_run(dst, at, &own, n);
+}
+
 // Copies src into dst from index at on, as much as there is place for.
 pub fn copy_at(dst: &mut [u8], at: usize, src: &[u8])
     ensures { λ _. ⌜ now (dst .exit) ≡ copied (now (dst .entry)) at (now (src .entry)) ⌝ }
 {
     let n = clamped(dst.len(), at, src.len());
     copy_run(dst, at, src, n);
+}
+
+// The same for buffers of a caller.
+pub fn move_at(dst: &mut [u8], at: usize, src: &[u8])
+    ensures { λ _. ⌜ now (dst .exit) ≡ copied (now (dst .entry)) at (now (src .entry)) ⌝ }
+{
+    let k = clamped(dst.len(), at, src.len());
+    if 65536 < k {
+        copy_run(dst, at, src, k);
+        return;
+    }
+    move_run(dst, at, src, k);
 }
 
 // Writes v to n bytes of dst from index at on, as many as there is place for.
@@ -92,20 +115,20 @@ pub fn place_of(cap: usize, q: Ring, i: usize) -> usize
 // Writes src behind what the ring holds, up to the buffer's end and then from its start.
 fn write(buf: &mut [u8], q: Ring, src: &[u8])
     requires { ⌜ Kept (now buf) q ⌝ }
-    requires { ⌜ length (now src) ≤ length (now buf) - q .len ⌝ }
+    requires { ⌜ (length (now src) ≤ length (now buf) - q .len) × (length (now src) ≤ 65536) ⌝ }
     ensures { λ _. ⌜ now (buf .exit) ≡ written (now (buf .entry)) q (now (src .entry)) ⌝ }
 {
     let cap = buf.len();
     let tail = place_of(cap, q, q.len);
     let first = clamped(cap, tail, src.len());
-    copy_run(buf, tail, src, first);
-    copy_run(buf, 0, &src[first..], src.len() - first);
+    move_run(buf, tail, src, first);
+    move_run(buf, 0, &src[first..], src.len() - first);
 }
 
 // Writes six bytes and then a body behind what the ring holds, each by itself.
 fn write_apart(buf: &mut [u8], q: Ring, h: [u8; 6], body: &[u8])
     requires { ⌜ Kept (now buf) q ⌝ }
-    requires { ⌜ 6 + length (now body) ≤ length (now buf) - q .len ⌝ }
+    requires { ⌜ (6 + length (now body) ≤ length (now buf) - q .len) × (length (now body) ≤ 65536) ⌝ }
     ensures { λ _. ⌜ now (buf .exit) ≡ written (now (buf .entry)) q (h ++ now (body .entry)) ⌝ }
 {
     write(buf, q, &h);
@@ -116,9 +139,9 @@ fn write_apart(buf: &mut [u8], q: Ring, h: [u8; 6], body: &[u8])
     write(buf, t, body);
 }
 
-// Puts six bytes and then a body behind what the ring holds, if both fit. Asks once where the ring wraps.
+// Puts six bytes and then a body of an EP's length behind what the ring holds, if both fit. Asks once where the ring wraps.
 pub fn push(buf: &mut [u8], q: Ring, h: [u8; 6], body: &[u8]) -> Ring
-    requires { ⌜ Kept (now buf) q ⌝ }
+    requires { ⌜ Kept (now buf) q × (length (now body) ≤ 65536) ⌝ }
     ensures { λ r. ⌜ record { ring = r; bytes = now (buf .exit) } ≡ pushed (now (buf .entry)) q (h ++ now (body .entry)) ⌝ }
 {
     let cap = buf.len();
@@ -142,14 +165,14 @@ pub fn push(buf: &mut [u8], q: Ring, h: [u8; 6], body: &[u8]) -> Ring
     // in two runs, each of which the compiler stores at once
     copy_run(buf, tail, &h[0..4], 4);
     copy_run(buf, tail + 4, &h[4..6], 2);
-    copy_run(buf, tail + 6, body, body.len());
+    move_run(buf, tail + 6, body, body.len());
     t
 }
 
 // Reads the first bytes of what the ring holds, as many as dst has, in at most two runs.
 fn read(buf: &[u8], q: Ring, dst: &mut [u8])
     requires { ⌜ Kept (now buf) q ⌝ }
-    requires { ⌜ length (now dst) ≤ q .len ⌝ }
+    requires { ⌜ (length (now dst) ≤ q .len) × (length (now dst) ≤ 65536) ⌝ }
     ensures { λ _. ⌜ now (dst .exit) ≡ take (length (now (dst .entry))) (held (now (buf .entry)) q) ⌝ }
 {
     let head = q.head;
@@ -157,8 +180,7 @@ fn read(buf: &[u8], q: Ring, dst: &mut [u8])
     let n = dst.len();
     let first = cap - head;
     if n <= first {
-        let end = head + n;
-        copy_at(dst, 0, &buf[head..end]);
+        move_run(dst, 0, &buf[head..], n);
         return;
     }
     let left = n - first;
@@ -193,8 +215,9 @@ fn off_by(cap: usize, q: Ring, n: usize) -> Ring
     }
 }
 
-// Takes n bytes off what the ring holds into dst from index at on, if they are held and there is place.
+// Takes n bytes, no more than an EP has, off what the ring holds into dst from index at on, if they are held and there is place.
 pub fn pop_into(buf: &[u8], q: Ring, dst: &mut [u8], at: usize, n: usize) -> Ring
+    requires { ⌜ n ≤ 65536 ⌝ }
     ensures { λ r. ⌜ record { ring = r; bytes = now (dst .exit) } ≡ popped (now (buf .entry)) q (now (dst .entry)) at n ⌝ }
 {
     if !is_kept(buf.len(), q) {

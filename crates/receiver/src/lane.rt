@@ -287,7 +287,7 @@ fn entered(h: Header, began: Place, from: usize, tp: &[u8], room: &mut [u8]) -> 
     let flips = h.flips;
     let n = queue::least(size, tp.len() - from);
     let end = from + n;
-    queue::copy_at(room, 0, &tp[from..end]);
+    queue::move_at(room, 0, &tp[from..end]);
     if n < size {
         return Met::Ends(Lane::Busy {
             began,
@@ -397,7 +397,7 @@ fn from_busy(
         return Met::Other;
     }
     let end = at + n;
-    queue::copy_at(room, len, &tp[at..end]);
+    queue::move_at(room, len, &tp[at..end]);
     if rest < left {
         return Met::Ends(Lane::Busy {
             began,

@@ -133,7 +133,7 @@ fn run(tp: &[u8], start: usize, content: u8, first: usize, room: &mut [u8]) -> C
     let data = at + 6;
     let n = queue::least(h.size, tp.len() - data);
     let end = data + n;
-    queue::copy_at(room, len, &tp[data..end]);
+    queue::move_at(room, len, &tp[data..end]);
     if n < h.size {
         return Course::Cut {
             header: h,
@@ -171,7 +171,7 @@ fn opens(w: &[u64; 23], tp: &[u8], room: &mut [u8]) -> Chain
     let data = from + 6;
     let n = queue::least(h.size, tp.len() - data);
     let at = data + n;
-    queue::copy_at(room, 0, &tp[data..at]);
+    queue::move_at(room, 0, &tp[data..at]);
     Chain::Of {
         at,
         content: h.content,
@@ -229,7 +229,7 @@ fn goes_on(w: &[u64; 23], tp: &[u8], room: &mut [u8]) -> Chain
         return Chain::No;
     }
     let at = 4 + n;
-    queue::copy_at(room, len, &tp[4..at]);
+    queue::move_at(room, len, &tp[4..at]);
     Chain::Of {
         at,
         content,

@@ -127,7 +127,7 @@ pub fn past_middles(tp: &[u8], start: usize, content: u8, first: usize, room: &m
             Read::Whole(h) => {
                 let from = at + 6;
                 at = from + h.size;
-                queue::copy_at(room, len, &tp[from..at]);
+                queue::move_at(room, len, &tp[from..at]);
                 len += h.size;
             }
         }
@@ -174,7 +174,7 @@ fn taken(tp: &[u8], from: usize, header: Header, began: Place, room: &mut [u8]) 
     let repaired = header.flips as u64;
     let n = queue::least(size, tp.len() - from);
     let end = from + n;
-    queue::copy_at(room, 0, &tp[from..end]);
+    queue::move_at(room, 0, &tp[from..end]);
     if n < size {
         let left = size - n;
         let kept = Kept::Of {

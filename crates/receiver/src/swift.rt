@@ -166,7 +166,7 @@ fn busy_next(
     let len = held.len;
     let end = 4 + n;
     if rest < left {
-        queue::copy_at(room, len, &tp[4..end]);
+        queue::move_at(room, len, &tp[4..end]);
         let v = r.walk;
         let began = v.began;
         let kept = Kept::Of {
@@ -192,7 +192,7 @@ fn busy_next(
     if !hands(header) {
         return Swift::Other;
     }
-    queue::copy_at(room, len, &tp[4..end]);
+    queue::move_at(room, len, &tp[4..end]);
     put(w, r, count, Stage::Plain, between(end));
     let find = Find::Ordinary {
         content: held.content,

@@ -218,7 +218,7 @@ fn put(tp: &[u8], at: usize, n: usize, kept: Kept, room: &mut [u8])
             len,
         } => {
             let end = at + n;
-            queue::copy_at(room, len, &tp[at..end]);
+            queue::move_at(room, len, &tp[at..end]);
         }
     }
 }

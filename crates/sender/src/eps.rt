@@ -12,7 +12,7 @@ use queue::Ring;
 // Puts an EP, its header and then its data, behind what the ring holds.
 pub fn put_ep(buf: &mut [u8], q: Ring, h: [u8; 6], body: &[u8]) -> Ring
     requires { ⌜ Kept (now buf) q ⌝ }
-    requires { ⌜ q .len + (6 + length (now body)) ≤ length (now buf) ⌝ }
+    requires { ⌜ (q .len + (6 + length (now body)) ≤ length (now buf)) × (length (now body) ≤ 65536) ⌝ }
     ensures { λ r. ⌜ record { ring = r; bytes = now (buf .exit) } ≡ Put (now (buf .entry)) q (h ++ now (body .entry)) ⌝ }
 {
     queue::push(buf, q, h, body)

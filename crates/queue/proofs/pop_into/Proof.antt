@@ -43,8 +43,9 @@ part-read-end c = let p = place-is _ _ _ (sym (c .before .has-place .ensures) �
 
 read-requires : tie.Need-read-requires
 read-requires c κs =
-    let a = c .before .before .before .before .before .before .before .before .before .args in
-    (kept-is (a .buf .now) (a .q) (sym (c .before .before .before .before .before .before .is-kept .ensures) ∙ not-false (c .before .before .before .before .before .before .is-kept .result) (c .before .before .before .before .before .if1 .left)), in-part (a .dst .now) (a .at) (a .n) (a .q .len) (c .before .before .before .if2 .left))
+    let s = c .before .before .before .before .before .before .before .before .before in
+    let a = s .args in
+    (kept-is (a .buf .now) (a .q) (sym (c .before .before .before .before .before .before .is-kept .ensures) ∙ not-false (c .before .before .before .before .before .before .is-kept .result) (c .before .before .before .before .before .if1 .left)), (in-part (a .dst .now) (a .at) (a .n) (a .q .len) (c .before .before .before .if2 .left), in-part (a .dst .now) (a .at) (a .n) 65536 (s .pre)))
 
 off-by-requires : tie.Need-off-by-requires
 off-by-requires c κs =

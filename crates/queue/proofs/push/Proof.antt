@@ -17,7 +17,7 @@ returns c =
     let s = c .before .before .before .before in
     let a = s .args in
     let l : length (a .t3) ≡ 6 = search needs in
-    let w = s .pre in
+    let w = s .pre .0 in
     let k = w .len in
     push-none (a .buf .now) (a .t3) (a .body .now) (a .q) w l (omega (arith, c .if1 .taken))
 
@@ -26,7 +26,7 @@ returns-2 c =
     let s = c .before .before .before .before .before in
     let a = s .args in
     let l : length (a .t3) ≡ 6 = search needs in
-    let w = s .pre in
+    let w = s .pre .0 in
     let k = w .len in
     push-none (a .buf .now) (a .t3) (a .body .now) (a .q) w l (omega (arith, c .before .if1 .left, c .if2 .taken))
 
@@ -42,8 +42,8 @@ place-of-requires c κs = search needs
 sub-if3 : tie.Need-sub-if3
 sub-if3 c =
     let s = c .before .before .before .before .before .before .before in
-    let k = s .pre .len in
-    let r = place-in (length (s .args .buf .now)) (s .args .q .head) (s .args .q .len) (s .pre .head) _ (c .place-of .ensures) (omega (arith, c .before .before .before .if1 .left)) in
+    let k = s .pre .0 .len in
+    let r = place-in (length (s .args .buf .now)) (s .args .q .head) (s .args .q .len) (s .pre .0 .head) _ (c .place-of .ensures) (omega (arith, c .before .before .before .if1 .left)) in
     omega arith
 
 write-apart-requires : tie.Need-write-apart-requires
@@ -57,7 +57,7 @@ returns-3 c =
     let s = c .before .before .before .before .before .before .before .before .before .before .before .before in
     let a = s .args in
     let l : length (a .t3) ≡ 6 = search needs in
-    let w = s .pre in
+    let w = s .pre .0 in
     let k = w .len in
     push-done (a .buf .now) (a .t3) (a .body .now) (a .q) w l (omega (arith, c .before .before .before .before .before .before .before .before .if1 .left, c .before .before .before .before .before .before .before .if2 .left)) _ (c .before .before .write-apart .ensures)
 
@@ -88,11 +88,11 @@ part-copy-run-end-2 c = search needs
 copy-run-requires-2 : tie.Need-copy-run-requires-2
 copy-run-requires-2 c κs = search needs
 
-add-copy-run-3 : tie.Need-add-copy-run-3
-add-copy-run-3 c = search needs
+add-move-run : tie.Need-add-move-run
+add-move-run c = search needs
 
-copy-run-requires-3 : tie.Need-copy-run-requires-3
-copy-run-requires-3 c κs = search needs
+move-run-requires : tie.Need-move-run-requires
+move-run-requires c κs = search needs
 
 same-length-2 : tie.Need-same-length-2
 same-length-2 c = search needs
@@ -102,13 +102,13 @@ returns-4 c =
     let s = c .before .before .before .before .before .before .before .before .before .before .before .before .before .before .before .before .before .before .before .before .before .before .before .before in
     let a = s .args in
     let l : length (a .t3) ≡ 6 = search needs in
-    let w = s .pre in
+    let w = s .pre .0 in
     let k = w .len in
     let p : 6 + length (a .body .now) ≤ length (a .buf .now) - a .q .len = omega (arith, c .before .before .before .before .before .before .before .before .before .before .before .before .before .before .before .before .before .before .before .before .if1 .left, c .before .before .before .before .before .before .before .before .before .before .before .before .before .before .before .before .before .before .before .if2 .left) in
     let at : ℕ = c .before .before .before .before .before .before .before .before .before .before .before .before .before .before .before .before .before .place-of .result in
     let r = c .before .before .before .before .before .before .before .before .before .before .before .before .before .before .before .before .if3 .left in
     let six = write-six (a .buf .now) (a .t3) _ _ at l (omega arith) (c .before .before .before .before .before .before .before .before .before .before .before .before .copy-run .ensures) (c .before .before .before .before .before .before .copy-run2 .ensures) in
-    push-done (a .buf .now) (a .t3) (a .body .now) (a .q) w l p _ (write-stride (a .buf .now) (a .t3) (a .body .now) (a .q) w l p _ _ at (c .before .before .before .before .before .before .before .before .before .before .before .before .before .before .before .before .before .place-of .ensures) r six (c .before .before .copy-run3 .ensures))
+    push-done (a .buf .now) (a .t3) (a .body .now) (a .q) w l p _ (write-stride (a .buf .now) (a .t3) (a .body .now) (a .q) w l p _ _ at (c .before .before .before .before .before .before .before .before .before .before .before .before .before .before .before .before .before .place-of .ensures) r six (c .before .before .move-run .ensures))
 
 pub push-spec : {M : Type 1} → statement M
 push-spec =
@@ -133,7 +133,7 @@ push-spec =
     part-copy-run-start-2
     part-copy-run-end-2
     copy-run-requires-2
-    add-copy-run-3
-    copy-run-requires-3
+    add-move-run
+    move-run-requires
     same-length-2
     returns-4)

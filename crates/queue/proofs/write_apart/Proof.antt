@@ -26,7 +26,7 @@ returns c =
     let s = c .before .before .before .before .before .before .before .before .before .before .before .before in
     let a = s .args in
     let l : length (a .t3) ≡ 6 = search needs in
-    write-both (a .buf .now) (a .t3) (a .body .now) (a .q) (s .pre .0) l (s .pre .1) _ _ (c .before .before .before .before .before .before .before .write .ensures) (c .before .before .write2 .ensures)
+    write-both (a .buf .now) (a .t3) (a .body .now) (a .q) (s .pre .0) l (s .pre .1 .0) _ _ (c .before .before .before .before .before .before .before .write .ensures) (c .before .before .write2 .ensures)
 
 pub write-apart-spec : {M : Type 1} → statement M
 write-apart-spec =

@@ -19,17 +19,17 @@ returns c = search needs
 add-end : tie.Need-add-end
 add-end c = search needs
 
-sub-copy-at : tie.Need-sub-copy-at
-sub-copy-at c = search needs
+sub-move-at : tie.Need-sub-move-at
+sub-move-at c = search needs
 
-part-copy-at-start : tie.Need-part-copy-at-start
-part-copy-at-start c = search needs
+part-move-at-start : tie.Need-part-move-at-start
+part-move-at-start c = search needs
 
-part-copy-at-end : tie.Need-part-copy-at-end
-part-copy-at-end c = search needs
+part-move-at-end : tie.Need-part-move-at-end
+part-move-at-end c = search needs
 
-copy-at-requires : tie.Need-copy-at-requires
-copy-at-requires c κs = search needs
+move-at-requires : tie.Need-move-at-requires
+move-at-requires c κs = search needs
 
 sub-t20 : tie.Need-sub-t20
 sub-t20 c = search needs
@@ -45,7 +45,7 @@ returns-2 c =
     let s = c .before .before .before .before .before .before .before .before .before .before in
     let a = s .args in
     let e = sym (c .before .before .before .before .before .before .before .least .ensures) ∙ c .before .before .before .before .before .before .if1 .left in
-    busy-ends (a .began) (a .left) (a .len) (a .content) (a .flips) (a .n) (a .at) (a .tp .now) (a .room .now) _ (s .pre .1) (λ i. omega (arith, c .before .before .before .before .before .before .before .before .before .shared-slice-known .given i)) (s .pre .0) e (c .before .before .before .copy-at .ensures) (search needs) (c .if2 .taken)
+    busy-ends (a .began) (a .left) (a .len) (a .content) (a .flips) (a .n) (a .at) (a .tp .now) (a .room .now) _ (s .pre .1) (λ i. omega (arith, c .before .before .before .before .before .before .before .before .before .shared-slice-known .given i)) (s .pre .0) e (c .before .before .before .move-at .ensures) (search needs) (c .if2 .taken)
 
 add-t12 : tie.Need-add-t12
 add-t12 c = search needs
@@ -58,7 +58,7 @@ returns-3 c =
     let s = c .before .before .before .before .before .before .before .before .before .before in
     let a = s .args in
     let e = sym (c .before .before .before .before .before .before .before .least .ensures) ∙ c .before .before .before .before .before .before .if1 .left in
-    busy-gives (a .began) (a .left) (a .len) (a .content) (a .flips) (a .n) (a .at) (a .tp .now) (a .room .now) _ (s .pre .1) (λ i. omega (arith, c .before .before .before .before .before .before .before .before .before .shared-slice-known .given i)) (s .pre .0) e (c .before .before .before .copy-at .ensures) (search needs) (c .if2 .left)
+    busy-gives (a .began) (a .left) (a .len) (a .content) (a .flips) (a .n) (a .at) (a .tp .now) (a .room .now) _ (s .pre .1) (λ i. omega (arith, c .before .before .before .before .before .before .before .before .before .shared-slice-known .given i)) (s .pre .0) e (c .before .before .before .move-at .ensures) (search needs) (c .if2 .left)
 
 pub from-busy-spec : {M : Type 1} → statement M
 from-busy-spec =
@@ -68,10 +68,10 @@ from-busy-spec =
     least-requires
     returns
     add-end
-    sub-copy-at
-    part-copy-at-start
-    part-copy-at-end
-    copy-at-requires
+    sub-move-at
+    part-move-at-start
+    part-move-at-end
+    move-at-requires
     sub-t20
     add-t21
     same-length

@@ -66,20 +66,20 @@ add-at c =
     let d = behind-of _ _ (s .args .tp .now) _ (c .before .before .before .before .begin .ensures) (c .before .before .n .given .1) in
     omega (arith, within-tp _ (s .args .tp .now) _ _ (s .pre .0) d)
 
-sub-copy-at : tie.Need-sub-copy-at
-sub-copy-at c = search needs
+sub-move-at : tie.Need-sub-move-at
+sub-move-at c = search needs
 
-part-copy-at-start : tie.Need-part-copy-at-start
-part-copy-at-start c = search needs
+part-move-at-start : tie.Need-part-move-at-start
+part-move-at-start c = search needs
 
-part-copy-at-end : tie.Need-part-copy-at-end
-part-copy-at-end c =
+part-move-at-end : tie.Need-part-move-at-end
+part-move-at-end c =
     let s = c .before .before .before .before .before .before .before .before .before .before .before .before .before .before .before .before .before .before .before .before .before .before .before .before in
     let d = behind-of _ _ (s .args .tp .now) _ (c .before .before .before .before .before .begin .ensures) (c .before .before .before .n .given .1) in
     omega (arith, within-tp _ (s .args .tp .now) _ _ (s .pre .0) d)
 
-copy-at-requires : tie.Need-copy-at-requires
-copy-at-requires c κs = search needs
+move-at-requires : tie.Need-move-at-requires
+move-at-requires c κs = search needs
 
 add-t23 : tie.Need-add-t23
 add-t23 c =
@@ -102,7 +102,7 @@ returns-10 c =
     let e = c .before .before .before .before .before .before .before .before .before .before .before .before .before .before .before .before .before .before .before .before .before .before .before .before .before .before .receiver-in .ensures in
     let b = busy-by (receiverIn (a .w .now)) _ e _ _ _ _ _ _ (c .before .before .before .before .before .before .before .before .before .before .before .before .before .before .before .before .before .before .before .before .before .before .before .enum-told .given .1) (c .before .before .before .before .before .before .before .before .before .before .before .before .before .before .before .before .before .before .before .before .before .phase .given .1) (c .before .before .before .before .before .before .before .before .before .before .before .before .before .before .before .before .before .before .kept .given .1) in
     let d = behind-of _ _ (a .tp .now) _ (c .before .before .before .before .before .before .before .before .before .before .begin .ensures) (c .before .before .before .before .before .before .before .before .n .given .1) in
-    goes-on (receiverIn (a .w .now)) (a .tp .now) (s .pre .0) (a .room .now) _ (s .pre .1) (search needs) (λ i. omega (arith, c .before .before .before .before .before .before .before .before .before .before .before .before .before .before .before .before .before .before .before .before .before .before .before .before .before .before .before .before .shared-slice-known .given i)) _ _ _ _ _ _ _ _ b (rw e at d) (c .before .before .before .before .before .before .if5 .left) (rw e at (c .counted .ensures)) (c .before .before .before .copy-at .ensures) (c .before .before .before .before .before .before .before .before .before .before .before .before .before .before .before .if1 .left) (c .before .before .before .before .before .before .before .before .before .before .before .before .before .if2 .left) (c .before .before .before .before .before .before .before .before .before .before .before .before .if3 .left) (c .before .before .before .before .before .before .before .before .before .before .before .if4 .left)
+    goes-on (receiverIn (a .w .now)) (a .tp .now) (s .pre .0) (a .room .now) _ (s .pre .1) (search needs) (λ i. omega (arith, c .before .before .before .before .before .before .before .before .before .before .before .before .before .before .before .before .before .before .before .before .before .before .before .before .before .before .before .before .shared-slice-known .given i)) _ _ _ _ _ _ _ _ b (rw e at d) (c .before .before .before .before .before .before .if5 .left) (rw e at (c .counted .ensures)) (c .before .before .before .move-at .ensures) (c .before .before .before .before .before .before .before .before .before .before .before .before .before .before .before .if1 .left) (c .before .before .before .before .before .before .before .before .before .before .before .before .before .if2 .left) (c .before .before .before .before .before .before .before .before .before .before .before .before .if3 .left) (c .before .before .before .before .before .before .before .before .before .before .before .if4 .left)
 
 pub goes-on-spec : {M : Type 1} → statement M
 goes-on-spec =
@@ -126,10 +126,10 @@ goes-on-spec =
     returns-8
     returns-9
     add-at
-    sub-copy-at
-    part-copy-at-start
-    part-copy-at-end
-    copy-at-requires
+    sub-move-at
+    part-move-at-start
+    part-move-at-end
+    move-at-requires
     add-t23
     counted-requires
     same-length

@@ -63,20 +63,20 @@ least-requires c κs = search needs
 add-at : tie.Need-add-at
 add-at c = search needs
 
-sub-copy-at : tie.Need-sub-copy-at
-sub-copy-at c = search needs
+sub-move-at : tie.Need-sub-move-at
+sub-move-at c = search needs
 
-part-copy-at-start : tie.Need-part-copy-at-start
-part-copy-at-start c = search needs
+part-move-at-start : tie.Need-part-move-at-start
+part-move-at-start c = search needs
 
-part-copy-at-end : tie.Need-part-copy-at-end
-part-copy-at-end c =
+part-move-at-end : tie.Need-part-move-at-end
+part-move-at-end c =
     let n = c .before .least .ensures in
     let f = first-of _ _ _ _ _ (c .before .before .before .before .before .before .first-at .ensures) (c .before .before .before .before .h .given .1) in
     omega (arith, f .0 .stands .six)
 
-copy-at-requires : tie.Need-copy-at-requires
-copy-at-requires c κs = search needs
+move-at-requires : tie.Need-move-at-requires
+move-at-requires c κs = search needs
 
 cast-t13 : tie.Need-cast-t13
 cast-t13 c = search needs
@@ -98,7 +98,7 @@ returns-6 c =
     let s = c .before .before .before .before .before .before .before .before .before .before .before .before .before .before .before .before .before .before .before .before .before .before .before .before .before .before in
     let a = s .args in
     let f = first-of _ _ _ _ _ (c .before .before .before .before .before .before .before .before .before .before .before .before .before .before .first-at .ensures) (c .before .before .before .before .before .before .before .before .before .before .before .before .h .given .1) in
-    opened (receiverIn (a .w .now)) (a .tp .now) (s .pre .1 .0) (a .room .now) _ (s .pre .1 .1) (search needs) (λ i. omega (arith, c .before .before .before .before .before .before .before .before .before .before .before .before .before .before .before .before .before .before .before .before .before .before .before .before .before .shared-slice-known .given i)) (getD (a .w .now) 4 0) (receiverIn (a .w .now) .walk .began) (words-plain (a .w .now) (s .pre .0) (c .before .before .before .before .before .before .before .before .before .before .before .before .before .before .before .before .before .before .before .before .if2 .left) (c .before .before .before .before .before .before .before .before .before .before .before .before .before .before .before .before .before .before .if3 .left) (s .pre .2) (c .before .before .before .before .before .before .before .before .before .before .before .before .before .before .before .before .before .before .before .before .before .before .if1 .left)) (words-between (a .w .now) (s .pre .0) (c .before .before .before .before .before .before .before .before .before .before .before .before .before .before .before .before .before .before .before .before .if2 .left) (c .before .before .before .before .before .before .before .before .before .before .before .before .before .before .before .before .before .before .if3 .left) (s .pre .2)) _ (words-count (a .w .now)) _ (c .before .before .before .before .before .before .before .before .before .before .before .before .before .before .before .past-fill .ensures) _ f _ (c .before .before .before .before .before .before .before .before .before .least .ensures) (c .before .before .before .before .before .before .copy-at .ensures) _ (rw (c .before .of .ensures, c .before .before .own .ensures)) _ _ refl refl
+    opened (receiverIn (a .w .now)) (a .tp .now) (s .pre .1 .0) (a .room .now) _ (s .pre .1 .1) (search needs) (λ i. omega (arith, c .before .before .before .before .before .before .before .before .before .before .before .before .before .before .before .before .before .before .before .before .before .before .before .before .before .shared-slice-known .given i)) (getD (a .w .now) 4 0) (receiverIn (a .w .now) .walk .began) (words-plain (a .w .now) (s .pre .0) (c .before .before .before .before .before .before .before .before .before .before .before .before .before .before .before .before .before .before .before .before .if2 .left) (c .before .before .before .before .before .before .before .before .before .before .before .before .before .before .before .before .before .before .if3 .left) (s .pre .2) (c .before .before .before .before .before .before .before .before .before .before .before .before .before .before .before .before .before .before .before .before .before .before .if1 .left)) (words-between (a .w .now) (s .pre .0) (c .before .before .before .before .before .before .before .before .before .before .before .before .before .before .before .before .before .before .before .before .if2 .left) (c .before .before .before .before .before .before .before .before .before .before .before .before .before .before .before .before .before .before .if3 .left) (s .pre .2)) _ (words-count (a .w .now)) _ (c .before .before .before .before .before .before .before .before .before .before .before .before .before .before .before .past-fill .ensures) _ f _ (c .before .before .before .before .before .before .before .before .before .least .ensures) (c .before .before .before .before .before .before .move-at .ensures) _ (rw (c .before .of .ensures, c .before .before .own .ensures)) _ _ refl refl
 
 pub opens-spec : {M : Type 1} → statement M
 opens-spec =
@@ -122,10 +122,10 @@ opens-spec =
     sub-least
     least-requires
     add-at
-    sub-copy-at
-    part-copy-at-start
-    part-copy-at-end
-    copy-at-requires
+    sub-move-at
+    part-move-at-start
+    part-move-at-end
+    move-at-requires
     cast-t13
     own-requires
     of-requires

@@ -49,20 +49,20 @@ least-requires c κs = search needs
 add-end : tie.Need-add-end
 add-end c = search needs
 
-sub-copy-at : tie.Need-sub-copy-at
-sub-copy-at c = search needs
+sub-move-at : tie.Need-sub-move-at
+sub-move-at c = search needs
 
-part-copy-at-start : tie.Need-part-copy-at-start
-part-copy-at-start c = search needs
+part-move-at-start : tie.Need-part-move-at-start
+part-move-at-start c = search needs
 
-part-copy-at-end : tie.Need-part-copy-at-end
-part-copy-at-end c =
+part-move-at-end : tie.Need-part-move-at-end
+part-move-at-end c =
     let n = c .before .least .ensures in
     let f = later-of _ _ _ _ _ _ (c .before .before .before .before .before .later-at .ensures) (c .before .before .before .h .given .1) in
     omega (arith, f .0 .six)
 
-copy-at-requires : tie.Need-copy-at-requires
-copy-at-requires c κs = search needs
+move-at-requires : tie.Need-move-at-requires
+move-at-requires c κs = search needs
 
 sub-t25 : tie.Need-sub-t25
 sub-t25 c = search needs
@@ -71,7 +71,7 @@ add-t26 : tie.Need-add-t26
 add-t26 c =
     let a = c .before .before .before .before .before .before .before .before .before .before .before .before .before .before .before .before .before .before .before .before .args in
     let f = later-of _ _ _ _ _ _ (c .before .before .before .before .before .before .before .before .before .before .before .before .later-at .ensures) (c .before .before .before .before .before .before .before .before .before .before .h .given .1) in
-    let g = run-fits (a .tp .now) (λ i. omega (arith, c .before .before .before .before .before .before .before .before .before .before .before .before .before .before .before .before .before .before .before .shared-slice-known .given i)) (a .start) (a .content) (a .first) (a .room .now) _ (search needs) _ _ (c .before .before .before .before .before .before .before .before .before .before .before .before .before .before .before .before .past-middles .ensures) _ f _ (c .before .before .before .before .before .before .before .before .least .ensures) _ (c .before .before .before .before .before .copy-at .ensures) in
+    let g = run-fits (a .tp .now) (λ i. omega (arith, c .before .before .before .before .before .before .before .before .before .before .before .before .before .before .before .before .before .before .before .shared-slice-known .given i)) (a .start) (a .content) (a .first) (a .room .now) _ (search needs) _ _ (c .before .before .before .before .before .before .before .before .before .before .before .before .before .before .before .before .past-middles .ensures) _ f _ (c .before .before .before .before .before .before .before .before .least .ensures) _ (c .before .before .before .before .before .move-at .ensures) in
     omega (arith, g, c .before .before .before .before .before .before .before .before .before .before .before .before .before .before .before .before .before .before .before .before .good .1 .1 .1 .1 .0 .0)
 
 same-length-3 : tie.Need-same-length-3
@@ -81,13 +81,13 @@ returns-3 : tie.Need-returns-3
 returns-3 c =
     let a = c .before .before .before .before .before .before .before .before .before .before .before .before .before .before .before .before .before .before .before .before .args in
     let f = later-of _ _ _ _ _ _ (c .before .before .before .before .before .before .before .before .before .before .before .before .later-at .ensures) (c .before .before .before .before .before .before .before .before .before .before .h .given .1) in
-    run-cut (a .tp .now) (λ i. omega (arith, c .before .before .before .before .before .before .before .before .before .before .before .before .before .before .before .before .before .before .before .shared-slice-known .given i)) (a .start) (a .content) (a .first) (a .room .now) _ (search needs) _ _ (c .before .before .before .before .before .before .before .before .before .before .before .before .before .before .before .before .past-middles .ensures) _ f _ (c .before .before .before .before .before .before .before .before .least .ensures) _ (c .before .before .before .before .before .copy-at .ensures) (c .before .if2 .taken)
+    run-cut (a .tp .now) (λ i. omega (arith, c .before .before .before .before .before .before .before .before .before .before .before .before .before .before .before .before .before .before .before .shared-slice-known .given i)) (a .start) (a .content) (a .first) (a .room .now) _ (search needs) _ _ (c .before .before .before .before .before .before .before .before .before .before .before .before .before .before .before .before .past-middles .ensures) _ f _ (c .before .before .before .before .before .before .before .before .least .ensures) _ (c .before .before .before .before .before .move-at .ensures) (c .before .if2 .taken)
 
 add-t15 : tie.Need-add-t15
 add-t15 c =
     let a = c .before .before .before .before .before .before .before .before .before .before .before .before .before .before .before .before .before .before .before .args in
     let f = later-of _ _ _ _ _ _ (c .before .before .before .before .before .before .before .before .before .before .before .later-at .ensures) (c .before .before .before .before .before .before .before .before .before .h .given .1) in
-    let g = run-fits (a .tp .now) (λ i. omega (arith, c .before .before .before .before .before .before .before .before .before .before .before .before .before .before .before .before .before .before .shared-slice-known .given i)) (a .start) (a .content) (a .first) (a .room .now) _ (search needs) _ _ (c .before .before .before .before .before .before .before .before .before .before .before .before .before .before .before .past-middles .ensures) _ f _ (c .before .before .before .before .before .before .before .least .ensures) _ (c .before .before .before .before .copy-at .ensures) in
+    let g = run-fits (a .tp .now) (λ i. omega (arith, c .before .before .before .before .before .before .before .before .before .before .before .before .before .before .before .before .before .before .shared-slice-known .given i)) (a .start) (a .content) (a .first) (a .room .now) _ (search needs) _ _ (c .before .before .before .before .before .before .before .before .before .before .before .before .before .before .before .past-middles .ensures) _ f _ (c .before .before .before .before .before .before .before .least .ensures) _ (c .before .before .before .before .move-at .ensures) in
     omega (arith, g, c .before .before .before .before .before .before .before .before .before .before .before .before .before .before .before .before .before .before .before .good .1 .1 .1 .1 .0 .0)
 
 same-length-4 : tie.Need-same-length-4
@@ -97,7 +97,7 @@ returns-4 : tie.Need-returns-4
 returns-4 c =
     let a = c .before .before .before .before .before .before .before .before .before .before .before .before .before .before .before .before .before .before .before .args in
     let f = later-of _ _ _ _ _ _ (c .before .before .before .before .before .before .before .before .before .before .before .later-at .ensures) (c .before .before .before .before .before .before .before .before .before .h .given .1) in
-    run-whole (a .tp .now) (λ i. omega (arith, c .before .before .before .before .before .before .before .before .before .before .before .before .before .before .before .before .before .before .shared-slice-known .given i)) (a .start) (a .content) (a .first) (a .room .now) _ (search needs) _ _ (c .before .before .before .before .before .before .before .before .before .before .before .before .before .before .before .past-middles .ensures) _ f _ (c .before .before .before .before .before .before .before .least .ensures) _ (c .before .before .before .before .copy-at .ensures) (c .if2 .left)
+    run-whole (a .tp .now) (λ i. omega (arith, c .before .before .before .before .before .before .before .before .before .before .before .before .before .before .before .before .before .before .shared-slice-known .given i)) (a .start) (a .content) (a .first) (a .room .now) _ (search needs) _ _ (c .before .before .before .before .before .before .before .before .before .before .before .before .before .before .before .past-middles .ensures) _ f _ (c .before .before .before .before .before .before .before .least .ensures) _ (c .before .before .before .before .move-at .ensures) (c .if2 .left)
 
 pub run-spec : {M : Type 1} → statement M
 run-spec =
@@ -116,10 +116,10 @@ run-spec =
     sub-least
     least-requires
     add-end
-    sub-copy-at
-    part-copy-at-start
-    part-copy-at-end
-    copy-at-requires
+    sub-move-at
+    part-move-at-start
+    part-move-at-end
+    move-at-requires
     sub-t25
     add-t26
     same-length-3

@@ -43,20 +43,20 @@ add-at : tie.Need-add-at Inv-loop μ-loop
 add-at c =
     let f = middle-of _ _ _ _ _ _ (c .before .before .before .before .middle-at .ensures) (c .before .before .h .given .1) in omega (arith, f .3)
 
-sub-copy-at : tie.Need-sub-copy-at Inv-loop μ-loop
-sub-copy-at c =
+sub-move-at : tie.Need-sub-move-at Inv-loop μ-loop
+sub-move-at c =
     let f = middle-of _ _ _ _ _ _ (c .before .before .before .before .before .middle-at .ensures) (c .before .before .before .h .given .1) in omega (arith, f .3)
 
-part-copy-at-start : tie.Need-part-copy-at-start Inv-loop μ-loop
-part-copy-at-start c =
+part-move-at-start : tie.Need-part-move-at-start Inv-loop μ-loop
+part-move-at-start c =
     let f = middle-of _ _ _ _ _ _ (c .before .before .before .before .before .middle-at .ensures) (c .before .before .before .h .given .1) in omega (arith, f .3)
 
-part-copy-at-end : tie.Need-part-copy-at-end Inv-loop μ-loop
-part-copy-at-end c =
+part-move-at-end : tie.Need-part-move-at-end Inv-loop μ-loop
+part-move-at-end c =
     let f = middle-of _ _ _ _ _ _ (c .before .before .before .before .before .middle-at .ensures) (c .before .before .before .h .given .1) in omega (arith, f .3)
 
-copy-at-requires : tie.Need-copy-at-requires Inv-loop μ-loop
-copy-at-requires c κs = search needs
+move-at-requires : tie.Need-move-at-requires Inv-loop μ-loop
+move-at-requires c κs = search needs
 
 add-len : tie.Need-add-len Inv-loop μ-loop
 add-len c =
@@ -72,8 +72,8 @@ loop-again c =
     let l = c .before .before .before .before .before .before .before .before .before .before .before .loop in
     let r = l .inv .1 .roomy in
     let z = l .inv .0 in
-    let put = middle-put (a .tp .now) (length (a .room .now)) (a .content) (l .room) _ (l .at + 6) _ (l .len) (omega (arith, f .3)) (omega (arith, f .2)) (c .before .before .before .copy-at .ensures) in
-    let n : length (c .before .before .before .copy-at .last .0) ≡ length (a .room .now) = search needs in
+    let put = middle-put (a .tp .now) (length (a .room .now)) (a .content) (l .room) _ (l .at + 6) _ (l .len) (omega (arith, f .3)) (omega (arith, f .2)) (c .before .before .before .move-at .ensures) in
+    let n : length (c .before .before .before .move-at .last .0) ≡ length (a .room .now) = search needs in
     (n, joins-on (a .tp .now) (length (a .room .now)) (a .content) (a .start) (a .first) (a .room .now) (l .at) (l .len) (l .room) _ _ _ (l .inv .1) (middle-joins (a .tp .now) (length (a .room .now)) (a .content) (λ i. omega (arith, c .before .before .before .before .before .before .before .before .before .before .before .before .before .shared-slice-known .given i)) (l .room) _ z (l .at) (l .len) _ _ _ (f .0) (f .4) (f .1) r (omega (arith, f .2)) (f .3) refl refl put))
 
 same-length : tie.Need-same-length Inv-loop μ-loop
@@ -96,10 +96,10 @@ past-middles-spec =
     enum-known-h
     add-from
     add-at
-    sub-copy-at
-    part-copy-at-start
-    part-copy-at-end
-    copy-at-requires
+    sub-move-at
+    part-move-at-start
+    part-move-at-end
+    move-at-requires
     add-len
     loop-less
     loop-again

@@ -18,17 +18,17 @@ least-requires c κs = search needs
 add-end : tie.Need-add-end
 add-end c = search needs
 
-sub-copy-at : tie.Need-sub-copy-at
-sub-copy-at c = search needs
+sub-move-at : tie.Need-sub-move-at
+sub-move-at c = search needs
 
-part-copy-at-start : tie.Need-part-copy-at-start
-part-copy-at-start c = search needs
+part-move-at-start : tie.Need-part-move-at-start
+part-move-at-start c = search needs
 
-part-copy-at-end : tie.Need-part-copy-at-end
-part-copy-at-end c = search needs
+part-move-at-end : tie.Need-part-move-at-end
+part-move-at-end c = search needs
 
-copy-at-requires : tie.Need-copy-at-requires
-copy-at-requires c κs = search needs
+move-at-requires : tie.Need-move-at-requires
+move-at-requires c κs = search needs
 
 sub-left : tie.Need-sub-left
 sub-left c = search needs
@@ -41,7 +41,7 @@ same-length c = search needs
 
 returns : tie.Need-returns
 returns c =
-    let a = c .before .before .before .before .before .before .before .before .before .before .before .args in let n = c .before .before .before .before .before .before .before .least in (c .stop .ensures ∙ taken-cut (a .tp .now) (a .from) (n .result) (a .header) (a .began) (n .ensures) (c .before .if1 .taken), taken-put (a .tp .now) (a .from) (n .result) (a .header) (a .began) (n .ensures) (a .room .now) _ (c .before .before .before .before .before .before .before .before .before .before .before .pre .0) (c .before .before .before .before .before .before .before .before .before .before .before .pre .1) (c .before .before .before .before .copy-at .ensures))
+    let a = c .before .before .before .before .before .before .before .before .before .before .before .args in let n = c .before .before .before .before .before .before .before .least in (c .stop .ensures ∙ taken-cut (a .tp .now) (a .from) (n .result) (a .header) (a .began) (n .ensures) (c .before .if1 .taken), taken-put (a .tp .now) (a .from) (n .result) (a .header) (a .began) (n .ensures) (a .room .now) _ (c .before .before .before .before .before .before .before .before .before .before .before .pre .0) (c .before .before .before .before .before .before .before .before .before .before .before .pre .1) (c .before .before .before .before .move-at .ensures))
 
 stop-requires-2 : tie.Need-stop-requires-2
 stop-requires-2 c κs = search needs
@@ -51,7 +51,7 @@ same-length-2 c = search needs
 
 returns-2 : tie.Need-returns-2
 returns-2 c =
-    let a = c .before .before .before .before .before .before .before .before .before .before .before .args in let n = c .before .before .before .before .before .before .before .least in (c .stop2 .ensures ∙ taken-whole (a .tp .now) (a .from) (n .result) (a .header) (a .began) (n .ensures) (c .before .before .before .before .before .before .before .before .before .before .before .pre .2) (c .before .if1 .left), taken-put (a .tp .now) (a .from) (n .result) (a .header) (a .began) (n .ensures) (a .room .now) _ (c .before .before .before .before .before .before .before .before .before .before .before .pre .0) (c .before .before .before .before .before .before .before .before .before .before .before .pre .1) (c .before .before .before .before .copy-at .ensures))
+    let a = c .before .before .before .before .before .before .before .before .before .before .before .args in let n = c .before .before .before .before .before .before .before .least in (c .stop2 .ensures ∙ taken-whole (a .tp .now) (a .from) (n .result) (a .header) (a .began) (n .ensures) (c .before .before .before .before .before .before .before .before .before .before .before .pre .2) (c .before .if1 .left), taken-put (a .tp .now) (a .from) (n .result) (a .header) (a .began) (n .ensures) (a .room .now) _ (c .before .before .before .before .before .before .before .before .before .before .before .pre .0) (c .before .before .before .before .before .before .before .before .before .before .before .pre .1) (c .before .before .before .before .move-at .ensures))
 
 pub taken-spec : {M : Type 1} → statement M
 taken-spec =
@@ -61,10 +61,10 @@ taken-spec =
     sub-least
     least-requires
     add-end
-    sub-copy-at
-    part-copy-at-start
-    part-copy-at-end
-    copy-at-requires
+    sub-move-at
+    part-move-at-start
+    part-move-at-end
+    move-at-requires
     sub-left
     stop-requires
     same-length

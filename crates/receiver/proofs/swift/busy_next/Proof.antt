@@ -35,17 +35,17 @@ counted-requires c κs = search needs
 add-end : tie.Need-add-end
 add-end c = search needs
 
-sub-copy-at : tie.Need-sub-copy-at
-sub-copy-at c = search needs
+sub-move-at : tie.Need-sub-move-at
+sub-move-at c = search needs
 
-part-copy-at-start : tie.Need-part-copy-at-start
-part-copy-at-start c = search needs
+part-move-at-start : tie.Need-part-move-at-start
+part-move-at-start c = search needs
 
-part-copy-at-end : tie.Need-part-copy-at-end
-part-copy-at-end c = search needs
+part-move-at-end : tie.Need-part-move-at-end
+part-move-at-end c = search needs
 
-copy-at-requires : tie.Need-copy-at-requires
-copy-at-requires c κs = search needs
+move-at-requires : tie.Need-move-at-requires
+move-at-requires c κs = search needs
 
 add-t29 : tie.Need-add-t29
 add-t29 c =
@@ -72,7 +72,7 @@ returns-3 c =
     let a = s .args in
     let b = behind-of _ (a .r .stream) (a .tp .now) _ (c .before .before .before .before .before .before .before .before .before .before .before .before .before .before .before .before .before .before .begin .ensures) (c .before .before .before .before .before .before .before .before .before .before .before .before .before .before .before .before .n .given .1) in
     let e = sym (c .before .before .before .before .before .before .before .before .before .before .before .before .before .before .least .ensures) ∙ c .before .before .before .before .before .before .before .before .before .before .before .before .before .if1 .left in
-    rw (c .nothing .ensures) (kept-cut (a .r) (a .tp .now) (s .pre .0) (a .room .now) _ _ (s .pre .2) (search needs) (a .header) (a .left) _ _ _ _ _ _ (s .pre .1) (λ i. omega (arith, c .before .before .before .before .before .before .before .before .before .before .before .before .before .before .before .before .before .before .before .before .shared-slice-known .given i)) b e (c .before .before .before .before .before .before .before .before .before .before .before .before .counted .ensures) (c .before .before .before .before .before .before .before .copy-at .ensures) (c .before .before .before .before .before .before .before .before .before .before .if2 .taken) _ refl (c .before .put .ensures))
+    rw (c .nothing .ensures) (kept-cut (a .r) (a .tp .now) (s .pre .0) (a .room .now) _ _ (s .pre .2) (search needs) (a .header) (a .left) _ _ _ _ _ _ (s .pre .1) (λ i. omega (arith, c .before .before .before .before .before .before .before .before .before .before .before .before .before .before .before .before .before .before .before .before .shared-slice-known .given i)) b e (c .before .before .before .before .before .before .before .before .before .before .before .before .counted .ensures) (c .before .before .before .before .before .before .before .move-at .ensures) (c .before .before .before .before .before .before .before .before .before .before .if2 .taken) _ refl (c .before .put .ensures))
 
 hands-requires : tie.Need-hands-requires
 hands-requires c κs = search needs
@@ -80,17 +80,17 @@ hands-requires c κs = search needs
 returns-4 : tie.Need-returns-4
 returns-4 c = search needs
 
-sub-copy-at-2 : tie.Need-sub-copy-at-2
-sub-copy-at-2 c = search needs
+sub-move-at-2 : tie.Need-sub-move-at-2
+sub-move-at-2 c = search needs
 
-part-copy-at-start-2 : tie.Need-part-copy-at-start-2
-part-copy-at-start-2 c = search needs
+part-move-at-start-2 : tie.Need-part-move-at-start-2
+part-move-at-start-2 c = search needs
 
-part-copy-at-end-2 : tie.Need-part-copy-at-end-2
-part-copy-at-end-2 c = search needs
+part-move-at-end-2 : tie.Need-part-move-at-end-2
+part-move-at-end-2 c = search needs
 
-copy-at-requires-2 : tie.Need-copy-at-requires-2
-copy-at-requires-2 c κs = search needs
+move-at-requires-2 : tie.Need-move-at-requires-2
+move-at-requires-2 c κs = search needs
 
 between-requires : tie.Need-between-requires
 between-requires c κs = search needs
@@ -114,7 +114,7 @@ returns-5 c =
     let a = s .args in
     let b = behind-of _ (a .r .stream) (a .tp .now) _ (c .before .before .before .before .before .before .before .before .before .before .before .before .before .before .before .before .before .before .begin .ensures) (c .before .before .before .before .before .before .before .before .before .before .before .before .before .before .before .before .n .given .1) in
     let e = sym (c .before .before .before .before .before .before .before .before .before .before .before .before .before .before .least .ensures) ∙ c .before .before .before .before .before .before .before .before .before .before .before .before .before .if1 .left in
-    kept-whole (a .r) (a .tp .now) (s .pre .0) (a .room .now) _ _ (s .pre .2) (search needs) (a .header) (a .left) _ _ _ _ _ _ (s .pre .1) (λ i. omega (arith, c .before .before .before .before .before .before .before .before .before .before .before .before .before .before .before .before .before .before .before .before .shared-slice-known .given i)) b e (c .before .before .before .before .before .before .before .before .before .before .before .before .counted .ensures) (c .before .before .before .before .before .copy-at2 .ensures) (c .before .before .before .before .before .before .before .before .before .before .if2 .left) (sym (c .before .before .before .before .before .before .before .before .before .hands .ensures) ∙ not-false _ (c .before .before .before .before .before .before .before .before .if3 .left)) (rw (c .before .between .ensures) at (c .put2 .ensures .0))
+    kept-whole (a .r) (a .tp .now) (s .pre .0) (a .room .now) _ _ (s .pre .2) (search needs) (a .header) (a .left) _ _ _ _ _ _ (s .pre .1) (λ i. omega (arith, c .before .before .before .before .before .before .before .before .before .before .before .before .before .before .before .before .before .before .before .before .shared-slice-known .given i)) b e (c .before .before .before .before .before .before .before .before .before .before .before .before .counted .ensures) (c .before .before .before .before .before .move-at2 .ensures) (c .before .before .before .before .before .before .before .before .before .before .if2 .left) (sym (c .before .before .before .before .before .before .before .before .before .hands .ensures) ∙ not-false _ (c .before .before .before .before .before .before .before .before .if3 .left)) (rw (c .before .between .ensures) at (c .put2 .ensures .0))
 
 pub busy-next-spec : {M : Type 1} → statement M
 busy-next-spec =
@@ -129,10 +129,10 @@ busy-next-spec =
     returns-2
     counted-requires
     add-end
-    sub-copy-at
-    part-copy-at-start
-    part-copy-at-end
-    copy-at-requires
+    sub-move-at
+    part-move-at-start
+    part-move-at-end
+    move-at-requires
     add-t29
     sub-remains
     put-requires
@@ -141,10 +141,10 @@ busy-next-spec =
     returns-3
     hands-requires
     returns-4
-    sub-copy-at-2
-    part-copy-at-start-2
-    part-copy-at-end-2
-    copy-at-requires-2
+    sub-move-at-2
+    part-move-at-start-2
+    part-move-at-end-2
+    move-at-requires-2
     between-requires
     put-requires-2
     add-t23

@@ -19,17 +19,17 @@ enum-known-kept c = search needs
 add-end : tie.Need-add-end
 add-end c = search needs
 
-sub-copy-at : tie.Need-sub-copy-at
-sub-copy-at c = search needs
+sub-move-at : tie.Need-sub-move-at
+sub-move-at c = search needs
 
-part-copy-at-start : tie.Need-part-copy-at-start
-part-copy-at-start c = search needs
+part-move-at-start : tie.Need-part-move-at-start
+part-move-at-start c = search needs
 
-part-copy-at-end : tie.Need-part-copy-at-end
-part-copy-at-end c = search needs
+part-move-at-end : tie.Need-part-move-at-end
+part-move-at-end c = search needs
 
-copy-at-requires : tie.Need-copy-at-requires
-copy-at-requires c κs = search needs
+move-at-requires : tie.Need-move-at-requires
+move-at-requires c κs = search needs
 
 returns : tie.Need-returns
 returns c = sym (ap (λ (k : Kept). pasted k (c .before .before .before .before .args .room .now) (drop (c .before .before .before .before .args .at) (c .before .before .before .before .args .tp .now)) (c .before .before .before .before .args .n)) (c .enum-told .given .1))
@@ -41,7 +41,7 @@ returns-2 : tie.Need-returns-2
 returns-2 c =
     let s = c .before .before .before .before .before .before .before .before .before .before in
     let g = rw (c .before .before .before .before .before .before .kept .given .1) at (s .pre .1) in
-    put-is (s .args .tp .now) (s .args .at) (s .args .n) _ _ _ _ (s .args .kept) (s .args .room .now) _ (c .before .before .before .before .before .before .kept .given .1) (s .pre .0) (omega arith) (c .before .before .copy-at .ensures)
+    put-is (s .args .tp .now) (s .args .at) (s .args .n) _ _ _ _ (s .args .kept) (s .args .room .now) _ (c .before .before .before .before .before .before .kept .given .1) (s .pre .0) (omega arith) (c .before .before .move-at .ensures)
 
 pub put-spec : {M : Type 1} → statement M
 put-spec =
@@ -50,10 +50,10 @@ put-spec =
     enum-told
     enum-known-kept
     add-end
-    sub-copy-at
-    part-copy-at-start
-    part-copy-at-end
-    copy-at-requires
+    sub-move-at
+    part-move-at-start
+    part-move-at-end
+    move-at-requires
     returns
     same-length
     returns-2)

@@ -19,7 +19,7 @@ returns c =
     let s = c .before .before .before .before .before .before in
     let a = s .args in
     let l : length (a .h) ≡ 6 = search needs in
-    is-put (a .buf .now) (a .q) (s .pre .0) (a .h ++ a .body .now) _ (omega (arith, length-append (a .h) (a .body .now), s .pre .1)) (c .before .before .push .ensures)
+    is-put (a .buf .now) (a .q) (s .pre .0) (a .h ++ a .body .now) _ (omega (arith, length-append (a .h) (a .body .now), s .pre .1 .0)) (c .before .before .push .ensures)
 
 pub put-ep-spec : {M : Type 1} → statement M
 put-ep-spec = tie.close (tie.spec push-requires same-length returns)

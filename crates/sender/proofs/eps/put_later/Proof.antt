@@ -49,7 +49,7 @@ put-ep-requires c κs =
     let l = c .before .before .before .loop in
     let r = room-more (a .buf .now) (a .q) (a .content) (a .sp .now) (a .piece) (l .buf) (l .t) (l .i) (l .inv) (c .before .before .before .before .before .before .before .pre .0) (c .before .before .before .before .before .before .before .pre .1 .0 .0) (c .before .before .before .before .before .before .before .pre .1 .1) (c .before .before .loop-test .taken) in
     let e = part-of (a .sp .now) (l .i) (a .piece) (c .before .before .loop-test .taken) in
-    (sound (a .buf .now) (a .q) (a .content) (a .sp .now) (a .piece) (l .buf) (l .t) (l .i) (l .inv) (c .before .before .before .before .before .before .before .pre .0) (c .before .before .before .before .before .before .before .pre .1 .0 .0) (c .before .before .before .before .before .before .before .pre .1 .1), rw e r)
+    (sound (a .buf .now) (a .q) (a .content) (a .sp .now) (a .piece) (l .buf) (l .t) (l .i) (l .inv) (c .before .before .before .before .before .before .before .pre .0) (c .before .before .before .before .before .before .before .pre .1 .0 .0) (c .before .before .before .before .before .before .before .pre .1 .1), (rw e r, omega arith))
 
 loop-less : tie.Need-loop-less Inv-loop μ-loop
 loop-less c = omega (arith, c .before .before .before .before .before .before .loop .inv .place)
@@ -85,7 +85,7 @@ put-ep-requires-2 c κs =
     let l = c .before .before .before .before .loop in
     let r = room-last (a .buf .now) (a .q) (a .content) (a .sp .now) (a .piece) (l .buf) (l .t) (l .i) (l .inv) (c .before .before .before .before .before .before .before .before .pre .0) (c .before .before .before .before .before .before .before .before .pre .1 .0 .0) (c .before .before .before .before .before .before .before .before .pre .1 .1) (c .before .before .before .loop-test .left) in
     let e = tail-of (a .sp .now) (l .i) in
-    (sound (a .buf .now) (a .q) (a .content) (a .sp .now) (a .piece) (l .buf) (l .t) (l .i) (l .inv) (c .before .before .before .before .before .before .before .before .pre .0) (c .before .before .before .before .before .before .before .before .pre .1 .0 .0) (c .before .before .before .before .before .before .before .before .pre .1 .1), rw e r)
+    (sound (a .buf .now) (a .q) (a .content) (a .sp .now) (a .piece) (l .buf) (l .t) (l .i) (l .inv) (c .before .before .before .before .before .before .before .before .pre .0) (c .before .before .before .before .before .before .before .before .pre .1 .0 .0) (c .before .before .before .before .before .before .before .before .pre .1 .1), (rw e r, omega arith))
 
 same-length : tie.Need-same-length Inv-loop μ-loop
 same-length c =

@@ -1,5 +1,6 @@
 -- `eps::put_sp` meets its contract: one complete EP, or a first one and the pieces after it. Assumes nothing.
 use mathlib.Core.Path.{refl, sym, ap, _∙_}
+use native.Mathlib.Omega.{arith}
 use lib.ListN.{length}
 use Rattle.sender.specs.Steps.{Put}
 use Rattle.sender.proofs.Puts.{put-as}
@@ -16,7 +17,7 @@ put-ep-requires : tie.Need-put-ep-requires
 put-ep-requires c κs =
     let s = c .before .before .before .before .before .before in
     let a = s .args in
-    (s .pre .0, room-one (a .buf .now) (a .q) (a .content) (a .sp .now) (a .piece) (s .pre .0) (s .pre .1 .1) (c .before .before .before .if1 .taken))
+    (s .pre .0, (room-one (a .buf .now) (a .q) (a .content) (a .sp .now) (a .piece) (s .pre .0) (s .pre .1 .1) (c .before .before .before .if1 .taken), omega arith))
 
 same-length : tie.Need-same-length
 same-length c = search needs
@@ -37,7 +38,7 @@ put-ep-requires-2 : tie.Need-put-ep-requires-2
 put-ep-requires-2 c κs =
     let s = c .before .before .before .before .before .before in
     let a = s .args in
-    (s .pre .0, room-one (a .buf .now) (a .q) (a .content) (a .sp .now) (a .piece) (s .pre .0) (s .pre .1 .1) (c .before .before .before .if1 .taken))
+    (s .pre .0, (room-one (a .buf .now) (a .q) (a .content) (a .sp .now) (a .piece) (s .pre .0) (s .pre .1 .1) (c .before .before .before .if1 .taken), omega arith))
 
 same-length-2 : tie.Need-same-length-2
 same-length-2 c = search needs
@@ -67,7 +68,7 @@ put-ep-requires-3 : tie.Need-put-ep-requires-3
 put-ep-requires-3 c κs =
     let s = c .before .before .before .before .before .before in
     let a = s .args in
-    (s .pre .0, room-first (a .buf .now) (a .q) (a .content) (a .sp .now) (a .piece) (s .pre .0) (s .pre .1 .1) (c .before .before .before .if1 .left))
+    (s .pre .0, (room-first (a .buf .now) (a .q) (a .content) (a .sp .now) (a .piece) (s .pre .0) (s .pre .1 .1) (c .before .before .before .if1 .left), omega arith))
 
 put-later-requires : tie.Need-put-later-requires
 put-later-requires c κs =

@@ -46,7 +46,14 @@ returns c =
     other-length (a .payload) (a .buf .now) (a .q) (a .tp .now) (l .tp) (l .t) (l .at) (l .inv) _ (c .before .before .low-at .ensures) (c .before .if1 .left) (c .if2 .taken)
 
 pop-into-requires : tie.Need-pop-into-requires Inv-loop μ-loop
-pop-into-requires c κs = search needs
+pop-into-requires c κs =
+    let s = c .before .before .before .before .before .before .before in
+    let a = s .args in
+    let l = c .before .before .before .before .loop in
+    let f = fits (a .payload) (a .buf .now) (a .q) (a .tp .now) (l .tp) (l .t) (l .at) (l .inv) _ (c .before .before .before .low-at .ensures) (c .before .before .if1 .left) (c .before .if2 .left) in
+    let f₁ = f .1 in
+    let p = s .pre .1 in
+    omega arith
 
 add-tp : tie.Need-add-tp Inv-loop μ-loop
 add-tp c =
