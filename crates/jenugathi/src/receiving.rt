@@ -123,7 +123,7 @@ pub extern "C" fn c7_receiver_next(
 ) -> u32
     ensures { λ n. ⌜ NextAs (ofWords (now (w .entry))) (now (w .entry)) (now (tp .entry)) (now (room .entry)) n (now (w .exit)) (now (find .exit)) (now (room .exit)) ⌝ }
 {
-    if receiver::words::is_fit(w) {
+    if receiver::words::can_be_called(w) {
         return call(w, tp, room, find);
     }
     *find = [1, 1, 0, 0, 0, 0, 0];

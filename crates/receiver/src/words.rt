@@ -3,7 +3,7 @@ ghost use mathlib.Core.Path.{_≡_};
 ghost use mathlib.Core.Bool.{true, _&&_, _||_};
 ghost use lib.Dec.{leb, ltb, eqb};
 ghost use Prim.Native.Nat.{_+_, _%_, _<_};
-ghost use Rattle.receiver.specs.Words.{stageWords, headerWords, headWords, phaseWords, keptWords, wordsOf, stageIn, headerFrom, phaseIn, placeIn, keptIn, receiverIn, openedb, begunb, stagedb, roomyb, below, phasedb, leftIn, fitb, ofWords, HeaderBytes, PhaseBytes, KeptBytes, Bytes, FitIf};
+ghost use Rattle.receiver.specs.Words.{stageWords, headerWords, headWords, phaseWords, keptWords, wordsOf, stageIn, headerFrom, phaseIn, placeIn, keptIn, receiverIn, openedb, begunb, stagedb, roomyb, below, phasedb, leftIn, fitb, betweenb, bareb, ofWords, HeaderBytes, PhaseBytes, KeptBytes, Bytes, FitIf};
 ghost use Rattle.receiver.specs.InSeries.{SeriesAs};
 use crate::Opened;
 use crate::Place;
@@ -355,7 +355,7 @@ fn left_in(sort: u64, left: u64) -> u64
     left
 }
 
-pub fn is_fit(w: &[u64; 23]) -> bool
+fn is_fit(w: &[u64; 23]) -> bool
     ensures { λ r. ⌜ r ≡ fitb (now (w .entry)) ⌝ }
 {
     if !is_opened(w[0], w[1], w[2], w[4]) {
@@ -368,6 +368,45 @@ pub fn is_fit(w: &[u64; 23]) -> bool
         return false;
     }
     is_roomy(w[2], w[16], w[19], left_in(w[7], w[12]))
+}
+
+// Out of step, or between two EPs.
+fn is_between(sort: u64, have: u64, word: u64) -> bool
+    ensures { λ r. ⌜ r ≡ betweenb sort have word ⌝ }
+{
+    if sort == 1 {
+        if have != 0 {
+            return false;
+        }
+        return word == 0;
+    }
+    sort == 0
+}
+
+// Whether words of an opened receiver have nothing kept and nothing under way, as most calls find them; they fit then.
+fn is_bare(w: &[u64; 23]) -> bool
+    ensures { λ r. ⌜ r ≡ bareb (now (w .entry)) ⌝ }
+{
+    if w[16] != 0 {
+        return false;
+    }
+    if !is_between(w[7], w[8], w[9]) {
+        return false;
+    }
+    if !is_staged(w[5], w[6], w[4]) {
+        return false;
+    }
+    is_opened(w[0], w[1], w[2], w[4])
+}
+
+// The same as `is_fit`; bare words leave at once.
+pub fn can_be_called(w: &[u64; 23]) -> bool
+    ensures { λ r. ⌜ r ≡ fitb (now (w .entry)) ⌝ }
+{
+    if is_bare(w) {
+        return true;
+    }
+    is_fit(w)
 }
 
 // The receiver whose words these are.
