@@ -9,9 +9,9 @@ use Rattle.sender.specs.declared.Answer.the-variants.{Done, Refused}
 use Rattle.sender.specs.declared.Refusal.{Refusal}
 use Rattle.sender.specs.declared.Refusal.the-variants.{Limits, Content, Long, Full, Buffer}
 use Rattle.sender.specs.declared.Sender.{Sender}
-use Rattle.sender.specs.Answers.{number, Given, givenBy, Left}
+use Rattle.sender.specs.Answers.{number, Given, done, givenBy, Left}
 use Rattle.sender.specs.Opening.{Sound, SoundAnswer}
-use Rattle.sender.specs.Words.{wordsOf, senderIn, sound, ofWords}
+use Rattle.sender.specs.Words.{wordsOf, senderIn, sound, ofWords, OfItsWords}
 use Rattle.sender.proofs.Worded.{if-sound}
 use Rattle.jenugathi.specs.Sending.{Told, told, Sent, sent, called, inWords, Lasting}
 
@@ -53,7 +53,21 @@ module _ (w b : List ℕ) (call : Sender → Left) (a : Answer) (e : givenBy a �
   forged k n d f = ap (λ (m : ℕ). record { number = m; state = w; buffer = b }) f ∙ by (Refused k) d
 
   -- a sender's: the call gives what its answer tells, in words
-  pub goes : (s : Sender) (q : Answer) (b′ v : List ℕ) (n : ℕ) → a ≡ Done s → record { given = givenBy q; buffer = b′ } ≡ call s
+  goes : (s : Sender) (q : Answer) (b′ v : List ℕ) (n : ℕ) → a ≡ Done s → record { given = givenBy q; buffer = b′ } ≡ call s
       → record { number = n; state = v } ≡ told w (givenBy q) → record { number = n; state = v; buffer = b′ } ≡ inWords w b call
   goes s q b′ v n d f t =
       ap (λ (x : Told). record { number = x .number; state = x .state; buffer = b′ }) t ∙ ap (sent w) f ∙ by (Done s) d
+
+  -- a refusal leaves the words
+  pub refuses : (s : Sender) (q : Answer) (b′ : List ℕ) (k : Refusal) (n : ℕ) → a ≡ Done s → record { given = givenBy q; buffer = b′ } ≡ call s → q ≡ Refused k → n ≡ number k
+      → (record { number = n; state = w; buffer = b′ } ≡ inWords w b call) × Lasting n w
+  refuses s q b′ k n d f g h = (goes s q b′ w n d f (tells-refusal w q k n g h), lasts-refused w q k n g h)
+
+  -- a sender's words are put over those that the call changes
+  pub writes : (s t : Sender) (q : Answer) (b′ v : List ℕ) (put : List ℕ → List ℕ) → a ≡ Done s → OfItsWords w a → record { given = givenBy q; buffer = b′ } ≡ call s
+      → q ≡ Done t → SoundAnswer q → (record { given = done t; buffer = b′ } ≡ call s → put (wordsOf s) ≡ wordsOf t) → v ≡ put w
+      → (record { number = 0; state = v; buffer = b′ } ≡ inWords w b call) × Lasting 0 v
+  writes s t q b′ v put d o f g h changes e′ =
+      let left : record { given = done t; buffer = b′ } ≡ call s = ap (λ (y : Answer). record { given = givenBy y; buffer = b′ }) (sym g) ∙ f in
+      let own : v ≡ wordsOf t = e′ ∙ ap put (subst (OfItsWords w) d o) ∙ changes left in
+      (goes s q b′ v 0 d f (tells-sender w v q t g own), lasts v q t g h own)

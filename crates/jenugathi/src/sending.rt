@@ -77,10 +77,13 @@ pub extern "C" fn c7_sender_offer(
 {
     match sender::words::of_words(*w) {
         Answer::Refused(k) => number_of(k),
-        Answer::Done(s) => tell(
-            w,
-            sender::offer_ordinary(s, low, ordinary, byte_of(content), sp),
-        ),
+        Answer::Done(s) => match sender::offer_ordinary(s, low, ordinary, byte_of(content), sp) {
+            Answer::Refused(k) => number_of(k),
+            Answer::Done(t) => {
+                sender::words::put_ordinary(w, t);
+                0
+            }
+        },
     }
 }
 
@@ -98,7 +101,13 @@ pub extern "C" fn c7_sender_offer_low(
 {
     match sender::words::of_words(*w) {
         Answer::Refused(k) => number_of(k),
-        Answer::Done(s) => tell(w, sender::offer_low(s, low, ordinary, byte_of(content), sp)),
+        Answer::Done(s) => match sender::offer_low(s, low, ordinary, byte_of(content), sp) {
+            Answer::Refused(k) => number_of(k),
+            Answer::Done(t) => {
+                sender::words::put_low(w, t);
+                0
+            }
+        },
     }
 }
 
@@ -115,6 +124,12 @@ pub extern "C" fn c7_sender_draw(
 {
     match sender::words::of_words(*w) {
         Answer::Refused(k) => number_of(k),
-        Answer::Done(s) => tell(w, sender::draw(s, low, ordinary, tp)),
+        Answer::Done(s) => match sender::draw(s, low, ordinary, tp) {
+            Answer::Refused(k) => number_of(k),
+            Answer::Done(t) => {
+                sender::words::put_drawn(w, t);
+                0
+            }
+        },
     }
 }

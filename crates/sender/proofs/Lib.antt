@@ -14,3 +14,4 @@ pub mod Stream
 pub mod Drawn
 pub mod Lengths
 pub mod Worded
+pub mod Changed

@@ -151,9 +151,9 @@ module _ (w : List ℕ) (s : Sender) (e : s ≡ senderIn w) (t : Bool) (a : t �
   sound-at : sound (senderIn w) ≡ t
   sound-at = sym (a ∙ ap sound e)
 
-  pub its : t ≡ true → (done s ≡ ofWords w) × Sound s
+  pub its : length w ≡ 11 → t ≡ true → (done s ≡ ofWords w) × (Sound s × (w ≡ wordsOf s))
   unfolding ofWords
-  its h = (rw (sound-at, h, sym e), sound-if s (sym a ∙ h))
+  its l h = (rw (sound-at, h, sym e), (sound-if s (sym a ∙ h), sym (words-back w l) ∙ ap wordsOf (sym e)))
 
   pub not-its : t ≡ false → refusal 1 ≡ ofWords w
   unfolding ofWords

@@ -2,18 +2,26 @@
 -- Assumes nothing.
 use mathlib.Core.Bool.{Bool, cond, _&&_}
 use mathlib.Core.List.{List, [], _∷_}
+use mathlib.Core.Path.{_≡_}
 use Prim.Native.Nat.{ℕ}
 use lib.Dec.{leb}
-use lib.ListN.{getD}
+use lib.ListN.{getD, set}
 use Rattle.queue.specs.declared.Ring.{Ring}
 use Rattle.sender.specs.declared.Setting.{Setting}
 use Rattle.sender.specs.declared.Sender.{Sender}
+use Rattle.sender.specs.declared.Answer.{Answer}
+use Rattle.sender.specs.declared.Answer.the-variants.{Done, Refused}
 use Rattle.sender.specs.Answers.{Given, done, refusal}
 
 unfoldable pub wordsOf : Sender → List ℕ
 wordsOf s =
     s .setting .payload ∷ s .setting .stream ∷ s .setting .piece ∷ s .setting .lowspace ∷ s .setting .space
     ∷ s .low .head ∷ s .low .len ∷ s .ordinary .head ∷ s .ordinary .len ∷ s .owed ∷ s .rest ∷ []
+
+-- w with what a draw changes of it: the words of s behind the setting's
+abbrev pub drawnIn : List ℕ → Sender → List ℕ
+drawnIn w s =
+    set (set (set (set (set (set w 5 (s .low .head)) 6 (s .low .len)) 7 (s .ordinary .head)) 8 (s .ordinary .len)) 9 (s .owed)) 10 (s .rest)
 
 unfoldable pub senderIn : List ℕ → Sender
 senderIn w =
@@ -43,3 +51,8 @@ sound s =
 -- 1 for words that no sound sender has
 unfoldable pub ofWords : List ℕ → Given
 ofWords w = cond (sound (senderIn w)) (done (senderIn w)) (refusal 1)
+
+-- the words that a sender was found in are its own: all eleven count
+abbrev pub OfItsWords : List ℕ → Answer → Type 0
+OfItsWords w (Done s) = w ≡ wordsOf s
+OfItsWords w (Refused k) = Unit {0}

@@ -1,8 +1,9 @@
 // A sender as eleven words that anyone may keep, and back.
 ghost use mathlib.Core.Path.{_≡_};
+ghost use lib.ListN.{set};
 ghost use Rattle.sender.specs.Answers.{givenBy};
 ghost use Rattle.sender.specs.Opening.{SoundAnswer};
-ghost use Rattle.sender.specs.Words.{wordsOf, senderIn, soundSetting, soundRing, sound, ofWords};
+ghost use Rattle.sender.specs.Words.{wordsOf, drawnIn, senderIn, soundSetting, soundRing, sound, ofWords, OfItsWords};
 use crate::Answer;
 use crate::Refusal;
 use crate::Sender;
@@ -28,6 +29,36 @@ pub fn words_of(s: Sender) -> [u64; 11]
         s.owed as u64,
         s.rest as u64,
     ]
+}
+
+// Puts what an ordinary offer changes of the words: the length of its ring.
+pub fn put_ordinary(w: &mut [u64; 11], s: Sender)
+    ensures { λ _. ⌜ now (w .exit) ≡ set (now (w .entry)) 8 (s .ordinary .len) ⌝ }
+{
+    let q = s.ordinary;
+    w[8] = q.len as u64;
+}
+
+// Puts what a low-latency offer changes of them: the length of its ring.
+pub fn put_low(w: &mut [u64; 11], s: Sender)
+    ensures { λ _. ⌜ now (w .exit) ≡ set (now (w .entry)) 6 (s .low .len) ⌝ }
+{
+    let q = s.low;
+    w[6] = q.len as u64;
+}
+
+// Puts what a draw changes of them: all but the setting's.
+pub fn put_drawn(w: &mut [u64; 11], s: Sender)
+    ensures { λ _. ⌜ now (w .exit) ≡ drawnIn (now (w .entry)) s ⌝ }
+{
+    let l = s.low;
+    let o = s.ordinary;
+    w[5] = l.head as u64;
+    w[6] = l.len as u64;
+    w[7] = o.head as u64;
+    w[8] = o.len as u64;
+    w[9] = s.owed as u64;
+    w[10] = s.rest as u64;
 }
 
 fn sender_in(w: [u64; 11]) -> Sender
@@ -109,6 +140,7 @@ fn is_sound(s: Sender) -> bool
 pub fn of_words(w: [u64; 11]) -> Answer
     ensures { λ r. ⌜ givenBy r ≡ ofWords w ⌝ }
     ensures { λ r. ⌜ SoundAnswer r ⌝ }
+    ensures { λ r. ⌜ OfItsWords w r ⌝ }
 {
     let s = sender_in(w);
     if is_sound(s) {

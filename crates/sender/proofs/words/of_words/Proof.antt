@@ -11,10 +11,12 @@ is-sound-requires : tie.Need-is-sound-requires
 is-sound-requires c κs = search needs
 
 returns : tie.Need-returns
-returns c = its (c .before .before .before .args .w) _ (c .before .before .sender-in .ensures) _ (c .before .is-sound .ensures) (c .if1 .taken)
+returns c =
+    let s = c .before .before .before in
+    its (s .args .w) _ (c .before .before .sender-in .ensures) _ (c .before .is-sound .ensures) (s .good .0 .1 .0 .1) (c .if1 .taken)
 
 returns-2 : tie.Need-returns-2
-returns-2 c = (not-its (c .before .before .before .args .w) _ (c .before .before .sender-in .ensures) _ (c .before .is-sound .ensures) (c .if1 .left), tt)
+returns-2 c = (not-its (c .before .before .before .args .w) _ (c .before .before .sender-in .ensures) _ (c .before .is-sound .ensures) (c .if1 .left), (tt, tt))
 
 pub of-words-spec : {M : Type 1} → statement M
 of-words-spec = tie.close (tie.spec sender-in-requires is-sound-requires returns returns-2)
