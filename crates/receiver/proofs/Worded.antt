@@ -26,7 +26,7 @@ use Rattle.receiver.specs.declared.walk.Walk.{Walk}
 use Rattle.receiver.specs.Call.{Gave, Gives, callOf, stampsOf, stepped}
 use Rattle.receiver.specs.Place.{ownOf, startOf}
 use Rattle.receiver.specs.State.{Able, Sound, Fine, Roomy, Settled, Staged}
-use Rattle.receiver.specs.Words.{wordsOf, stageWords, placeWords, headWords, phaseWords, keptWords, joined, stageIn, headerFrom, phaseIn, placeIn, keptIn, receiverIn, openedb, begunb, stagedb, roomyb, below, phasedb, leftIn, fitb, betweenb, bareb, ofWords, Opens, Bytes, HeaderBytes, PhaseBytes, KeptBytes, Fit, FitIf}
+use Rattle.receiver.specs.Words.{wordsOf, stageWords, placeWords, headWords, phaseWords, keptWords, joined, stageIn, headerFrom, phaseIn, placeIn, keptIn, receiverIn, openedb, begunb, stagedb, roomyb, below, phasedb, leftIn, fitb, datalessb, bareb, ofWords, Opens, Bytes, HeaderBytes, PhaseBytes, KeptBytes, Fit, FitIf}
 use Rattle.receiver.proofs.Lasting.{lasts-as}
 use Rattle.receiver.proofs.Pinned.{beganIn, plainly}
 
@@ -152,26 +152,23 @@ streamed ws e =
     let o₂ = right (leb (getD ws 0 0) 2051) _ o₃ in
     leb-true stream 15 (left (leb stream 15) _ o₂)
 
--- words with nothing kept and nothing under way pass
-between-phased : (stage sort have word n : ℕ) → betweenb sort have word ≡ true → phasedb stage sort have word n ≡ true
-unfolding betweenb phasedb below
-between-phased stage sort have word n e = go (eqb sort 1) refl e
+-- words with nothing kept and no data under way pass
+dataless-phased : (stage sort have word n : ℕ) → datalessb sort have word ≡ true → phasedb stage sort have word n ≡ true
+unfolding datalessb phasedb
+dataless-phased stage sort have word n e = go (eqb sort 1) refl e
   where
-    go : (t : Bool) → eqb sort 1 ≡ t → cond t (eqb have 0 && eqb word 0) (eqb sort 0) ≡ true → phasedb stage sort have word n ≡ true
-    go true one f =
-        let h : have ≡ 0 = eqb-true have 0 (left (eqb have 0) (eqb word 0) f) in
-        let w : word ≡ 0 = eqb-true word 0 (right (eqb have 0) (eqb word 0) f) in
-        simp (eqb-true sort 1 one, h, w)
+    go : (t : Bool) → eqb sort 1 ≡ t → cond t (ltb word (below have)) (eqb sort 0) ≡ true → phasedb stage sort have word n ≡ true
+    go true one f = simp (eqb-true sort 1 one, f)
     go false other f = simp (eqb-true sort 0 f)
 
 pub bare-fits : (ws : List ℕ) → bareb ws ≡ true → fitb ws ≡ true
 unfolding bareb fitb roomyb
 bare-fits ws e =
-    let between = right (eqb (getD ws 16 0) 0) _ e in
-    let staged = right (betweenb (getD ws 7 0) (getD ws 8 0) (getD ws 9 0)) _ between in
+    let dataless = right (eqb (getD ws 16 0) 0) _ e in
+    let staged = right (datalessb (getD ws 7 0) (getD ws 8 0) (getD ws 9 0)) _ dataless in
     let opened = right (stagedb (getD ws 5 0) (getD ws 6 0) (getD ws 4 0)) _ staged in
     let kept : getD ws 16 0 ≡ 0 = eqb-true _ _ (left _ _ e) in
-    simp (opened, left (stagedb (getD ws 5 0) (getD ws 6 0) (getD ws 4 0)) _ staged, between-phased (getD ws 5 0) (getD ws 7 0) (getD ws 8 0) (getD ws 9 0) (getD ws 12 0) (left _ _ between), kept)
+    simp (opened, left (stagedb (getD ws 5 0) (getD ws 6 0) (getD ws 4 0)) _ staged, dataless-phased (getD ws 5 0) (getD ws 7 0) (getD ws 8 0) (getD ws 9 0) (getD ws 12 0) (left _ _ dataless), kept)
 
 -- WORDS THAT PASS give a receiver that fits
 pub fits : (ws : List ℕ) → fitb ws ≡ true → Fit (receiverIn ws)

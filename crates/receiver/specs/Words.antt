@@ -125,14 +125,14 @@ unfoldable pub fitb : List ℕ → Bool
 fitb ws =
     openedb (getD ws 0 0) (getD ws 1 0) (getD ws 2 0) (getD ws 4 0) && (stagedb (getD ws 5 0) (getD ws 6 0) (getD ws 4 0) && (phasedb (getD ws 5 0) (getD ws 7 0) (getD ws 8 0) (getD ws 9 0) (getD ws 12 0) && roomyb (getD ws 2 0) (getD ws 16 0) (getD ws 19 0) (leftIn (getD ws 7 0) (getD ws 12 0))))
 
--- out of step, or between two EPs
-unfoldable pub betweenb : ℕ → ℕ → ℕ → Bool
-betweenb sort have word = cond (eqb sort 1) (eqb have 0 && eqb word 0) (eqb sort 0)
+-- out of step, between two EPs or in a header
+unfoldable pub datalessb : ℕ → ℕ → ℕ → Bool
+datalessb sort have word = cond (eqb sort 1) (ltb word (below have)) (eqb sort 0)
 
 -- so, and with nothing kept: such words fit
 unfoldable pub bareb : List ℕ → Bool
 bareb ws =
-    eqb (getD ws 16 0) 0 && (betweenb (getD ws 7 0) (getD ws 8 0) (getD ws 9 0) && (stagedb (getD ws 5 0) (getD ws 6 0) (getD ws 4 0) && openedb (getD ws 0 0) (getD ws 1 0) (getD ws 2 0) (getD ws 4 0)))
+    eqb (getD ws 16 0) 0 && (datalessb (getD ws 7 0) (getD ws 8 0) (getD ws 9 0) && (stagedb (getD ws 5 0) (getD ws 6 0) (getD ws 4 0) && openedb (getD ws 0 0) (getD ws 1 0) (getD ws 2 0) (getD ws 4 0)))
 
 -- THE RECEIVER OF WORDS: refused where it couldn't be called, or is outside an opening's limits
 unfoldable pub ofWords : List ℕ → Opened

@@ -3,7 +3,7 @@ ghost use mathlib.Core.Path.{_≡_};
 ghost use mathlib.Core.Bool.{true, _&&_, _||_};
 ghost use lib.Dec.{leb, ltb, eqb};
 ghost use Prim.Native.Nat.{_+_, _%_, _<_};
-ghost use Rattle.receiver.specs.Words.{stageWords, headerWords, headWords, phaseWords, keptWords, wordsOf, stageIn, headerFrom, phaseIn, placeIn, keptIn, receiverIn, openedb, begunb, stagedb, roomyb, below, phasedb, leftIn, fitb, betweenb, bareb, ofWords, HeaderBytes, PhaseBytes, KeptBytes, Bytes, FitIf};
+ghost use Rattle.receiver.specs.Words.{stageWords, headerWords, headWords, phaseWords, keptWords, wordsOf, stageIn, headerFrom, phaseIn, placeIn, keptIn, receiverIn, openedb, begunb, stagedb, roomyb, below, phasedb, leftIn, fitb, datalessb, bareb, ofWords, HeaderBytes, PhaseBytes, KeptBytes, Bytes, FitIf};
 ghost use Rattle.receiver.specs.InSeries.{SeriesAs};
 use crate::Opened;
 use crate::Place;
@@ -370,27 +370,24 @@ fn is_fit(w: &[u64; 23]) -> bool
     is_roomy(w[2], w[16], w[19], left_in(w[7], w[12]))
 }
 
-// Out of step, or between two EPs.
-fn is_between(sort: u64, have: u64, word: u64) -> bool
-    ensures { λ r. ⌜ r ≡ betweenb sort have word ⌝ }
+// Out of step, between two EPs or in a header.
+fn is_dataless(sort: u64, have: u64, word: u64) -> bool
+    ensures { λ r. ⌜ r ≡ datalessb sort have word ⌝ }
 {
     if sort == 1 {
-        if have != 0 {
-            return false;
-        }
-        return word == 0;
+        return word < bound(have);
     }
     sort == 0
 }
 
-// Whether words of an opened receiver have nothing kept and nothing under way, as most calls find them; they fit then.
+// Whether words of an opened receiver have nothing kept and no data under way, as most calls find them; they fit then.
 fn is_bare(w: &[u64; 23]) -> bool
     ensures { λ r. ⌜ r ≡ bareb (now (w .entry)) ⌝ }
 {
     if w[16] != 0 {
         return false;
     }
-    if !is_between(w[7], w[8], w[9]) {
+    if !is_dataless(w[7], w[8], w[9]) {
         return false;
     }
     if !is_staged(w[5], w[6], w[4]) {

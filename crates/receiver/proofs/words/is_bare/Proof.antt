@@ -13,21 +13,21 @@ returns : tie.Need-returns
 unfolding bareb
 returns c = simp (ne-eqb _ _ (c .if1 .taken))
 
-element-copy-out-is-between : tie.Need-element-copy-out-is-between
-element-copy-out-is-between c = search needs
+element-copy-out-is-dataless : tie.Need-element-copy-out-is-dataless
+element-copy-out-is-dataless c = search needs
 
-element-copy-out-is-between-2 : tie.Need-element-copy-out-is-between-2
-element-copy-out-is-between-2 c = search needs
+element-copy-out-is-dataless-2 : tie.Need-element-copy-out-is-dataless-2
+element-copy-out-is-dataless-2 c = search needs
 
-element-copy-out-is-between-3 : tie.Need-element-copy-out-is-between-3
-element-copy-out-is-between-3 c = search needs
+element-copy-out-is-dataless-3 : tie.Need-element-copy-out-is-dataless-3
+element-copy-out-is-dataless-3 c = search needs
 
-is-between-requires : tie.Need-is-between-requires
-is-between-requires c κs = search needs
+is-dataless-requires : tie.Need-is-dataless-requires
+is-dataless-requires c κs = search needs
 
 returns-2 : tie.Need-returns-2
 unfolding bareb
-returns-2 c = simp (eq-eqb _ _ (c .before .before .before .before .before .if1 .left), sym (c .before .is-between .ensures) ∙ not-true _ (c .if2 .taken))
+returns-2 c = simp (eq-eqb _ _ (c .before .before .before .before .before .if1 .left), sym (c .before .is-dataless .ensures) ∙ not-true _ (c .if2 .taken))
 
 element-copy-out-is-staged : tie.Need-element-copy-out-is-staged
 element-copy-out-is-staged c = search needs
@@ -43,7 +43,7 @@ is-staged-requires c κs = search needs
 
 returns-3 : tie.Need-returns-3
 unfolding bareb
-returns-3 c = simp (eq-eqb _ _ (c .before .before .before .before .before .before .before .before .before .before .if1 .left), sym (c .before .before .before .before .before .before .is-between .ensures) ∙ not-false _ (c .before .before .before .before .before .if2 .left), sym (c .before .is-staged .ensures) ∙ not-true _ (c .if3 .taken))
+returns-3 c = simp (eq-eqb _ _ (c .before .before .before .before .before .before .before .before .before .before .if1 .left), sym (c .before .before .before .before .before .before .is-dataless .ensures) ∙ not-false _ (c .before .before .before .before .before .if2 .left), sym (c .before .is-staged .ensures) ∙ not-true _ (c .if3 .taken))
 
 element-copy-out-is-opened : tie.Need-element-copy-out-is-opened
 element-copy-out-is-opened c = search needs
@@ -62,7 +62,7 @@ is-opened-requires c κs = search needs
 
 returns-4 : tie.Need-returns-4
 unfolding bareb
-returns-4 c = simp (eq-eqb _ _ (c .before .before .before .before .before .before .before .before .before .before .before .before .before .before .before .if1 .left), sym (c .before .before .before .before .before .before .before .before .before .before .before .is-between .ensures) ∙ not-false _ (c .before .before .before .before .before .before .before .before .before .before .if2 .left), sym (c .before .before .before .before .before .before .is-staged .ensures) ∙ not-false _ (c .before .before .before .before .before .if3 .left), c .is-opened .ensures)
+returns-4 c = simp (eq-eqb _ _ (c .before .before .before .before .before .before .before .before .before .before .before .before .before .before .before .if1 .left), sym (c .before .before .before .before .before .before .before .before .before .before .before .is-dataless .ensures) ∙ not-false _ (c .before .before .before .before .before .before .before .before .before .before .if2 .left), sym (c .before .before .before .before .before .before .is-staged .ensures) ∙ not-false _ (c .before .before .before .before .before .if3 .left), c .is-opened .ensures)
 
 pub is-bare-spec : {M : Type 1} → statement M
 is-bare-spec =
@@ -70,10 +70,10 @@ is-bare-spec =
     (tie.spec
     element-copy-out-if1
     returns
-    element-copy-out-is-between
-    element-copy-out-is-between-2
-    element-copy-out-is-between-3
-    is-between-requires
+    element-copy-out-is-dataless
+    element-copy-out-is-dataless-2
+    element-copy-out-is-dataless-3
+    is-dataless-requires
     returns-2
     element-copy-out-is-staged
     element-copy-out-is-staged-2
