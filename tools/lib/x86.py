@@ -6,7 +6,7 @@ import sys
 
 NATIVE = platform.machine() == "x86_64"
 PREFIX = "" if NATIVE else "x86_64-linux-gnu-"
-GCC, GXX, NM = PREFIX + "gcc", PREFIX + "g++", PREFIX + "nm"
+GCC, GXX, NM, OBJDUMP = (PREFIX + name for name in ("gcc", "g++", "nm", "objdump"))
 CROSS_ROOT = "/usr/x86_64-linux-gnu"  # where Debian's cross compilers keep the C library
 # what a test is compiled with: a program with the address sanitizer does not start under the emulator
 SANITIZED = ["-O1", "-g", "-fsanitize=%sundefined" % ("address," if NATIVE else ""), "-fno-sanitize-recover=all"]
