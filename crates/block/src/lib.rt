@@ -1,4 +1,6 @@
 // An output block: bytes and numbers are put behind what it holds, whole or not at all.
+#![tactic(auto)]
+
 ghost use Rattle.std.specs.Prelude.{◌≡◌};
 ghost use Rattle.block.specs.Block.{put as Block·put};
 

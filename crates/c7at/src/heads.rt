@@ -4,7 +4,7 @@ use house::{AtHand, Place};
 use index_loop::Stop;
 
 // How far the heads led, and whether they led to the record.
-#[derive(Drop)]
+#[derive(Clone, Copy)]
 pub struct Reached {
     pub record: u64,
     pub byte: u64,

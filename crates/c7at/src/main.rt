@@ -1,5 +1,7 @@
 // c7at RECORDING RECORD PLACE SORT: what a line of an index is for (R-8 of document 02). A receiver is started at that record, which
 // the heads before it lead to, and the first packet of that sort begun at or behind that place is written as a house record.
+#![tactic(auto)]
+
 ghost use Rattle.std.specs.Prelude.{length};
 ghost use Rattle.index_loop.specs.Walking.{Walked};
 
@@ -13,7 +15,7 @@ use jumping::Wanted;
 use receiver::Opened;
 
 // What is asked for, if it is asked for rightly.
-#[derive(Drop)]
+#[derive(Clone, Copy)]
 enum Asked {
     Wrongly,
     Packet(Wanted),

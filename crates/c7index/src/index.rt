@@ -5,7 +5,7 @@ use line_zero::{Reads, Top};
 const SIZE: usize = 133;
 
 // What is there: something that is told and not touched; nothing, or less than line 0; an index.
-#[derive(Drop)]
+#[derive(Clone, Copy)]
 pub enum Opened {
     Refused,
     Missing,

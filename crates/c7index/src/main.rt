@@ -1,5 +1,6 @@
 // c7index RECORDING INDEX: makes the index beside a recording, or grows it (R-8 of document 02). Line 0 alone commits: it is written
 // over when the lines that it counts are safe, so that a kill at any moment leaves an index that grows to the same.
+#![tactic(auto)]
 
 mod grow;
 mod index;

@@ -1,5 +1,7 @@
 // The reading program: house records of TPs and gaps in, the setup record and a record for each packet handed out. Its output here
 // is that of the second program.
+#![tactic(auto)]
+
 ghost use Rattle.std.specs.Prelude.{◌+◌, ◌≤◌, ◌<◌, length};
 ghost use Rattle.receiver.specs.State.{Able};
 ghost use Rattle.c7read.specs.Running.{Onward, Ready, Ahead};
@@ -15,7 +17,7 @@ const FINDS: u64 = 4096;
 const RECORDS: u64 = 16384;
 
 // Between two finds: the receiver, how much of the output block is held, where in the input block the record begins.
-#[derive(Drop)]
+#[derive(Clone, Copy)]
 struct Run {
     receiver: Receiver,
     at: usize,

@@ -1,5 +1,7 @@
 // Only tests need this crate.
 // Makes calls on one sender and one receiver, as a list on standard input tells, and prints a line for each: second/CALLS.md.
+#![tactic(auto)]
+
 ghost use Rattle.std.specs.Prelude.{length, ◌≤◌, ◌<◌};
 ghost use Rattle.calls.specs.Running.{Fine, Goes};
 
@@ -17,7 +19,7 @@ use text::freed;
 const LAST: u64 = 0x8000000000000000;
 
 // Between two calls; `at` bytes of the output block are held.
-#[derive(Drop)]
+#[derive(Clone, Copy)]
 pub struct State {
     pub sender: Sender,
     pub receiver: Receiver,
@@ -26,7 +28,7 @@ pub struct State {
 }
 
 // What an entry of the list says.
-#[derive(Drop)]
+#[derive(Clone, Copy)]
 pub struct Entry {
     pub op: u8,
     pub a: usize,
@@ -38,7 +40,7 @@ pub struct Entry {
 }
 
 // The list is over, with so many bytes held; or the state after a call.
-#[derive(Drop)]
+#[derive(Clone, Copy)]
 pub enum Next {
     Stop(usize),
     Go(State),

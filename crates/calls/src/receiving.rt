@@ -10,7 +10,7 @@ use receiver::{About, Find, Opened, Receiver, Step};
 const LAST: u64 = 0x8000000000000000;
 
 // What a call leaves, and whether the TP has more to give.
-#[derive(Drop)]
+#[derive(Clone, Copy)]
 pub struct Asked {
     pub state: State,
     pub goes_on: bool,

@@ -1,4 +1,6 @@
 // Chapter 11 packets as source packets, and back (R-1 of document 02; IRIG 106-23 Chapter 7, 7.2.2.4).
+#![tactic(auto)]
+
 ghost use Rattle.std.specs.Prelude.{◌≡◌, ◌+◌, ◌≤◌, true, length, ◌==◌};
 ghost use Rattle.block.specs.Block.{put};
 ghost use Rattle.chapter11.specs.Packet.{is_packet, new_length, cut_in};
@@ -10,14 +12,14 @@ mod words;
 use packet::Cut;
 
 // How many bytes the result has, at the buffer's start; or the number of the refusal.
-#[derive(Drop)]
+#[derive(Clone, Copy)]
 pub enum Answer {
     Done(usize),
     Refused(u8),
 }
 
 // What the Golay words of a source packet say.
-#[derive(Drop)]
+#[derive(Clone, Copy)]
 struct Fields {
     channel: usize,
     trailer: usize,
@@ -25,14 +27,14 @@ struct Fields {
 }
 
 // A Golay word's number.
-#[derive(Drop)]
+#[derive(Clone, Copy)]
 enum Number {
     Beyond,
     Is(u16),
 }
 
 // The fields, if none of the words is beyond repair.
-#[derive(Drop)]
+#[derive(Clone, Copy)]
 enum Read {
     Beyond,
     Whole(Fields),

@@ -3,7 +3,7 @@ ghost use Rattle.std.specs.Prelude.{◌≡◌, ◌+◌, ◌≤◌, true, length,
 ghost use Rattle.chapter11.specs.Packet.{two_at, four_at, two, four, secondary_by, sum_size_by, header_sum, together as Packet·together, is_packet, cut_in, all_zero, header_for};
 
 // Where the fill to be cut begins and ends, and how many bytes the packet has without it.
-#[derive(Drop)]
+#[derive(Clone, Copy)]
 pub struct Cut {
     pub from: usize,
     pub till: usize,

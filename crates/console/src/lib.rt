@@ -1,5 +1,7 @@
 // What every program that reads records does with standard input, output and error: an input block from which records are taken,
 // blocks out, and a line on whatever went wrong. A program's own loop takes the whole records of the block, then calls `go_on`.
+#![tactic(auto)]
+
 mod input;
 mod output;
 mod stretch;
@@ -16,7 +18,7 @@ pub const BLOCKS: u64 = 0x3FFFFFFFFFFF;
 pub const FULL: usize = 61440;
 
 // How many bytes of the input came before the input block, and the stretch of it that was read and is not yet taken.
-#[derive(Drop)]
+#[derive(Clone, Copy)]
 pub struct Unread {
     pub gone: u64,
     pub from: usize,
@@ -24,14 +26,14 @@ pub struct Unread {
 }
 
 // What more there is: nothing that could be read, or the block's new stretch.
-#[derive(Drop)]
+#[derive(Clone, Copy)]
 pub enum More {
     End,
     Read(Unread),
 }
 
 // The settings of the first record with what follows it, or nothing to do.
-#[derive(Drop)]
+#[derive(Clone, Copy)]
 pub enum Start {
     End,
     Ready(Setup, Unread),

@@ -1,5 +1,7 @@
 // What a word read and a call promise, and an offer and a draw of their answer and buffer, of functions that only hand it on: a
 // wrong answer in the place of one is refused by the contract alone.
+#![tactic(auto)]
+
 ghost use Rattle.std.specs.Prelude.{◌≡◌};
 ghost use Rattle.golay.specs.Answers.{Decodes};
 ghost use Rattle.receiver.specs.State.{Able};

@@ -1,4 +1,6 @@
 // Numbers as bytes, most significant first, and back.
+#![tactic(auto)]
+
 ghost use Rattle.std.specs.Prelude.{◌≡◌, [], ◌∷◌};
 ghost use Rattle.digits.specs.Digits.{digits, number};
 

@@ -1,1 +1,2 @@
 // Demand 3: definitions and proofs only.
+#![tactic(auto)]

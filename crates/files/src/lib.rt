@@ -1,4 +1,6 @@
 // What the programs do that open a recording by its name: reads and writes at a byte, the setup, a word as a number.
+#![tactic(auto)]
+
 ghost use Rattle.std.specs.Prelude.{◌≡◌, [], ◌∷◌, ◌+◌, ◌≤◌, min, length};
 ghost use Rattle.files.specs.Reading.{Within, Chosen, BeginsWith};
 ghost use Rattle.files.specs.Word.{number_on, word_of};
@@ -6,21 +8,21 @@ ghost use Rattle.files.specs.Word.{number_on, word_of};
 use house::{AtHand, Fault, Place, Settings, Setup};
 
 // How many bytes were read, if any could be.
-#[derive(Drop)]
+#[derive(Clone, Copy)]
 pub enum Got {
     Failed,
     Bytes(usize),
 }
 
 // The settings of a recording, or nothing to do.
-#[derive(Drop)]
+#[derive(Clone, Copy)]
 pub enum Begun {
     End,
     Ready(Setup),
 }
 
 // A word as a number, if it is one of 64 bits.
-#[derive(Drop)]
+#[derive(Clone, Copy)]
 pub enum Word {
     NoNumber,
     Number(u64),

@@ -1,4 +1,6 @@
 // The extended Golay code of IRIG 106-23 Chapter 7, Appendix A, and the low-latency end byte.
+#![tactic(auto)]
+
 ghost use Rattle.std.specs.Prelude.{◌≡◌, eqb};
 ghost use Rattle.golay.specs.Golay.{code_word, places_to, syndrome};
 ghost use Rattle.golay.specs.Answers.{Decodes, Enters, Mends, end_byte, end_flips, end_meant};
@@ -11,21 +13,21 @@ mod parities;
 
 // A 24-bit word read: the number of the code word within three flips, how many flips, and a one at each flipped bit;
 // or beyond repair.
-#[derive(Drop)]
+#[derive(Clone, Copy)]
 pub enum Decoded {
     Word { number: u16, flips: u8, places: u32 },
     Beyond,
 }
 
 // The same without the places.
-#[derive(Drop)]
+#[derive(Clone, Copy)]
 pub enum Mended {
     Word { number: u16, flips: u8 },
     Beyond,
 }
 
 // An end byte read: 00, FF, or beyond repair.
-#[derive(Drop)]
+#[derive(Clone, Copy)]
 pub enum End {
     Zeros,
     Ones,

@@ -5,7 +5,7 @@ ghost use Rattle.golay.specs.Golay.{code_word};
 use crate::parities::parity;
 
 // The code words of two numbers.
-#[derive(Drop)]
+#[derive(Clone, Copy)]
 pub struct Pair {
     pub first: u32,
     pub second: u32,

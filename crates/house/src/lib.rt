@@ -1,4 +1,6 @@
 // House records (document 01, 'Records and programs'): a head of eight bytes, then the data.
+#![tactic(auto)]
+
 mod head;
 mod setups;
 mod whole;
@@ -8,7 +10,7 @@ pub use setups::read_setup;
 pub use whole::{data_of, read_record, write_record};
 
 // What a good head says; the data are as long as it says.
-#[derive(Drop)]
+#[derive(Clone, Copy)]
 pub enum Record {
     Setup,
     Ordinary { content: u8, length: usize },
@@ -19,7 +21,7 @@ pub enum Record {
 }
 
 // Who reads, and where: the first record of either program, or a later one of one of them.
-#[derive(Drop)]
+#[derive(Clone, Copy)]
 pub enum Place {
     Start,
     Sending,
@@ -27,7 +29,7 @@ pub enum Place {
 }
 
 // What is wrong with a record.
-#[derive(Drop)]
+#[derive(Clone, Copy)]
 pub enum Fault {
     Mark,
     Kind,
@@ -38,14 +40,14 @@ pub enum Fault {
 }
 
 // A bad head gives none of its numbers.
-#[derive(Drop)]
+#[derive(Clone, Copy)]
 enum Judged {
     Good(Record),
     Bad(Fault),
 }
 
 // What the bytes at hand hold: not all of a record yet, a bad record, or a whole one with its data.
-#[derive(Drop)]
+#[derive(Clone, Copy)]
 pub enum AtHand {
     Part,
     Bad(Fault),
@@ -53,7 +55,7 @@ pub enum AtHand {
 }
 
 // A record is written up to this place; or there is no room for it, or its data have another length than it says.
-#[derive(Drop)]
+#[derive(Clone, Copy)]
 pub enum Written {
     Till(usize),
     NoRoom,
@@ -61,7 +63,7 @@ pub enum Written {
 }
 
 // What a setup record says: the TP length, the stream, F.
-#[derive(Drop)]
+#[derive(Clone, Copy)]
 pub struct Setup {
     pub tp: usize,
     pub stream: u8,
@@ -69,7 +71,7 @@ pub struct Setup {
 }
 
 // Settings outside the limits give none of their numbers.
-#[derive(Drop)]
+#[derive(Clone, Copy)]
 pub enum Settings {
     Within(Setup),
     Outside,

@@ -16,7 +16,7 @@ use receiver::lane::{Lane, Lows, Met, Top};
 use receiver::{Find, Place as Began, Receiver, Stage, Stamp, lane};
 
 // What of a TP is left to calls: nothing, and this is the next TP's lane; all; or what follows this place, in this lane and stage.
-#[derive(Drop)]
+#[derive(Clone, Copy)]
 pub enum Left {
     Nothing(Lane),
     All,
@@ -28,14 +28,14 @@ pub enum Left {
 }
 
 // Behind what is met: the next EP begins there; or no more is met, and this is left.
-#[derive(Drop)]
+#[derive(Clone, Copy)]
 pub enum Way {
     On(usize),
     Off(Left),
 }
 
 // In the low-latency part at this place, or behind it.
-#[derive(Drop)]
+#[derive(Clone, Copy)]
 pub enum Part {
     Within(usize),
     Broken,
@@ -43,28 +43,28 @@ pub enum Part {
 }
 
 // What is met among ordinary bytes, and how much of the output block is held with its line.
-#[derive(Drop)]
+#[derive(Clone, Copy)]
 pub struct Noted {
     met: Met,
     at: usize,
 }
 
 // The same of the low-latency part.
-#[derive(Drop)]
+#[derive(Clone, Copy)]
 pub struct NotedLow {
     lows: Lows,
     at: usize,
 }
 
 // How far the low-latency part is read, and how much of the output block is held.
-#[derive(Drop)]
+#[derive(Clone, Copy)]
 pub struct Parted {
     part: Part,
     at: usize,
 }
 
 // What of a TP is left, and how much of the output block is held.
-#[derive(Drop)]
+#[derive(Clone, Copy)]
 pub struct Passed {
     left: Left,
     at: usize,

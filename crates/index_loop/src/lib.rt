@@ -1,5 +1,7 @@
 // The records of a recording that is opened by its name, from any one of them on: for c7index a line for each packet, for c7at the
 // packet asked for.
+#![tactic(auto)]
+
 ghost use Rattle.std.specs.Prelude.{◌≡◌, ◌+◌, ◌<◌, length};
 ghost use Rattle.receiver.specs.State.{Able};
 ghost use Rattle.block.specs.Block.{put as Block·put};
@@ -24,14 +26,14 @@ const RECORDS: u64 = 16384;
 const BLOCKS: u64 = 512;
 
 // What is put for a find: its line, where its record is not covered; or its record, if it is the packet asked for.
-#[derive(Drop)]
+#[derive(Clone, Copy)]
 pub enum Task {
     Index(u64),
     Seek(Wanted),
 }
 
 // Why reading stopped: there is more; the recording's end, which may cut a record; a bad record; it cannot be read.
-#[derive(Drop)]
+#[derive(Clone, Copy)]
 pub enum Stop {
     More,
     End,
@@ -41,7 +43,7 @@ pub enum Stop {
 
 // Between two finds: the receiver, the record's number, how much of the output block is held, where in the input block the record
 // begins.
-#[derive(Drop)]
+#[derive(Clone, Copy)]
 struct Run {
     receiver: Receiver,
     record: u64,
@@ -50,7 +52,7 @@ struct Run {
 }
 
 // Behind a find: the receiver, how much of the output block is held, whether the TP goes on.
-#[derive(Drop)]
+#[derive(Clone, Copy)]
 struct Went {
     receiver: Receiver,
     at: usize,
@@ -58,14 +60,14 @@ struct Went {
 }
 
 // The stretch of the input block that is not yet taken, and why no more is read.
-#[derive(Drop)]
+#[derive(Clone, Copy)]
 struct Next {
     unread: Unread,
     stop: Stop,
 }
 
 // Between two calls: as between two finds, and the stretch of the input block that is not yet taken, which begins with that record.
-#[derive(Drop)]
+#[derive(Clone, Copy)]
 pub struct Walk {
     pub receiver: Receiver,
     pub record: u64,

@@ -1,1 +1,2 @@
 // R-8: definitions and proofs only.
+#![tactic(auto)]

@@ -1,4 +1,6 @@
 // The index beside a recording (R-8 of document 02), but for files and line 0: a packet's line, and of which finds it is put.
+#![tactic(auto)]
+
 ghost use Rattle.std.specs.Prelude.{◌≡◌};
 ghost use Rattle.block.specs.Block.{put};
 ghost use Rattle.indexing.specs.Lines.{new_text};

@@ -1,4 +1,6 @@
 // What a program in C calls. A state is words that the caller owns; every call is total, whatever the words say.
+#![tactic(auto)]
+
 ghost use Rattle.std.specs.Prelude.{◌≡◌};
 
 pub mod composing;

@@ -1,4 +1,6 @@
 // The record of a find, if that is the packet asked for: what a line of an index is for (R-8).
+#![tactic(auto)]
+
 ghost use Rattle.std.specs.Prelude.{◌≡◌};
 ghost use Rattle.block.specs.Block.{put};
 ghost use Rattle.jumping.specs.Wanting.{begun_there, is_sort, is_wanted, wanted_of};
@@ -6,7 +8,7 @@ ghost use Rattle.jumping.specs.Wanting.{begun_there, is_sort, is_wanted, wanted_
 use receiver::{Find, Place};
 
 // A packet is asked for by its sort and by the record and place at which, or behind which, it began.
-#[derive(Drop)]
+#[derive(Clone, Copy)]
 pub struct Wanted {
     pub record: u64,
     pub place: u64,

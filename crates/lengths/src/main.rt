@@ -1,6 +1,8 @@
 // Only tests need this crate.
 // Document 01's examples 5 and 8: packets at the edge of what a sender takes, and the EPs that they become in its queue.
 // The file stdout beside src/ is the document's text in these words, line by line.
+#![tactic(auto)]
+
 mod queued;
 
 use sender::Answer;

@@ -7,7 +7,7 @@ ghost use Rattle.lengths.specs.Queued.{whole_of, ep_in};
 use sender::Refusal;
 use wire::{Header, Read};
 
-#[derive(Drop)]
+#[derive(Clone, Copy)]
 pub enum Ep {
     Nothing,
     Whole { fragment: u8, size: usize },

@@ -1,11 +1,13 @@
 // Line 0 of an index (R-8 of document 02) as text, out and in.
+#![tactic(auto)]
+
 ghost use Rattle.std.specs.Prelude.{◌≡◌, ◌++◌, ◌+◌, ◌≤◌, ◌<◌, suc, length, take, drop};
 ghost use Rattle.block.specs.Block.{put};
 ghost use Rattle.line_zero.specs.Top.{digits20, top_text, digit_of, value_of, number_at, numbers_in, equal, top_in};
 
 // What line 0 says: how many records are covered, the setup counted; the record at which the unfinished EP or held series began, or
 // 0; the byte behind the last covered record; the byte at which record `since` begins, or 0; the bytes of the index, line 0 counted.
-#[derive(Drop)]
+#[derive(Clone, Copy)]
 pub struct Top {
     pub covered: u64,
     pub since: u64,
@@ -15,7 +17,7 @@ pub struct Top {
 }
 
 // What the first bytes of a file say, if they are a line 0.
-#[derive(Drop)]
+#[derive(Clone, Copy)]
 pub enum Reads {
     NoIndex,
     Says(Top),

@@ -25,7 +25,7 @@ const DUE: usize = 3;
 
 const LOW: usize = 4;
 
-#[derive(Drop)]
+#[derive(Clone, Copy)]
 pub struct Passed {
     left: usize,
     offset: usize,
@@ -138,7 +138,7 @@ fn ordinary(
 }
 
 // Behind the low-latency part, or within it, at this place.
-#[derive(Drop)]
+#[derive(Clone, Copy)]
 struct Parted {
     within: bool,
     place: usize,

@@ -1,5 +1,7 @@
 // The listing program but for its main: house records of TPs and gaps in, a line for each find out (document 01, 'Records and
 // programs').
+#![tactic(auto)]
+
 ghost use Rattle.std.specs.Prelude.{◌≡◌, ◌≤◌, length};
 ghost use Rattle.golay.specs.Book.{Book};
 ghost use Rattle.list_loop.specs.Running.{Fit, Onward, Ready, Ahead, Found, Does, Listed};
@@ -14,7 +16,7 @@ use receiver::{Opened, Receiver, over};
 
 // Between two finds: the receiver, how many TPs are done, how much of the output block is held, where in the input block the
 // record begins.
-#[derive(Drop)]
+#[derive(Clone, Copy)]
 pub struct Run {
     receiver: Receiver,
     done: u64,

@@ -1,5 +1,7 @@
 // The listing's lines, and one call of the receiver with the line of its find: what the listing program does, but for
 // reading and writing.
+#![tactic(auto)]
+
 ghost use Rattle.std.specs.Prelude.{◌≡◌, ◌+◌, ◌≤◌, [], ◌∷◌, ◌++◌, length, nat_le};
 ghost use Rattle.block.specs.Block.{put};
 ghost use Rattle.block.specs.Decimal.{decimal};
@@ -16,7 +18,7 @@ mod tens;
 pub use tens::first_ten;
 
 // Ten numbers: the last one, the digits that are the same in all of them, and how many digits each has.
-#[derive(Drop)]
+#[derive(Clone, Copy)]
 pub struct Ten {
     pub last: u64,
     pub text: [u8; 8],
@@ -24,14 +26,14 @@ pub struct Ten {
 }
 
 // The ten to keep, and how many bytes of the output block are held.
-#[derive(Drop)]
+#[derive(Clone, Copy)]
 pub struct Numbered {
     pub ten: Ten,
     pub at: usize,
 }
 
 // What a call gave, the ten to keep, and how many bytes of the output block are held.
-#[derive(Drop)]
+#[derive(Clone, Copy)]
 pub struct Listed {
     pub step: Step,
     pub ten: Ten,

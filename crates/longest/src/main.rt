@@ -1,6 +1,8 @@
 // Only tests need this crate.
 // The two ends with the longest packets, which the programs' buffers of 32,768 bytes don't hold: second/longest.c.
 // The file stdout beside src/ is what the second program prints.
+#![tactic(auto)]
+
 mod receiving;
 mod samples;
 mod sending;

@@ -11,7 +11,7 @@ const LAST: u64 = 0x8000000000000000;
 const TP: usize = 2051;
 
 // What was found: ordinary packets, their bytes and a digest of them; all else.
-#[derive(Drop)]
+#[derive(Clone, Copy)]
 struct Tally {
     packets: u64,
     bytes: u64,
@@ -19,14 +19,14 @@ struct Tally {
     digest: u64,
 }
 
-#[derive(Drop)]
+#[derive(Clone, Copy)]
 struct Run {
     receiver: Receiver,
     tally: Tally,
 }
 
 // What a call leaves, and whether the TP has more to give.
-#[derive(Drop)]
+#[derive(Clone, Copy)]
 struct Asked {
     run: Run,
     goes_on: bool,

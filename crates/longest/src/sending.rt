@@ -8,7 +8,7 @@ use sender::{Answer, Sender};
 const DRAWS: usize = 65;
 
 // Between two calls: the sender, and the digest of what was drawn.
-#[derive(Drop)]
+#[derive(Clone, Copy)]
 struct Run {
     sender: Sender,
     digest: u64,

@@ -1,5 +1,7 @@
 // The packing program but for its main: a script in, the same script with its Chapter 11 packets composed out (R-1 of document
 // 02). A refused packet is left out, and told on standard error.
+#![tactic(auto)]
+
 ghost use Rattle.std.specs.Prelude.{◌≡◌, ◌+◌, ◌≤◌, ◌<◌, length};
 ghost use Rattle.pack_loop.specs.Running.{Ready, Ahead};
 
@@ -8,7 +10,7 @@ use house::{AtHand, Place, Record};
 
 // Between two records: how much of the output block is held, where in the input block the last record began and the next one
 // begins, and the number of the last one's refusal, or 0.
-#[derive(Drop)]
+#[derive(Clone, Copy)]
 struct Run {
     at: usize,
     last: usize,

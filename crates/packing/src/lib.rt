@@ -1,4 +1,6 @@
 // One record of a script in, the same record with its Chapter 11 packet composed out: what c7pack does, but for reading and writing.
+#![tactic(auto)]
+
 ghost use Rattle.std.specs.Prelude.{◌≡◌};
 ghost use Rattle.packing.specs.Packing.{is_chapter11, of_length, recorded, turn_of};
 
@@ -6,7 +8,7 @@ use chapter11::Answer;
 use house::{Record, Written};
 
 // How many bytes of the output block are held, and the number if the packet was refused, else 0.
-#[derive(Drop)]
+#[derive(Clone, Copy)]
 pub struct Packed {
     pub at: usize,
     pub refused: u8,

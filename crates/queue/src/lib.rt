@@ -1,9 +1,11 @@
 // A queue of bytes in a lent buffer, as a ring; and the one loop that copies.
+#![tactic(auto)]
+
 ghost use Rattle.std.specs.Prelude.{◌≡◌, cond, ◌++◌, ◌+◌, ◌-◌, ◌≤◌, min, leb, length, take, get_or, replicate};
 ghost use Rattle.std.proofs.Math.Seq.{paste};
 ghost use Rattle.queue.specs.Ring.{copied, held, Kept, kept, written, pushed, off, place, popped};
 
-#[derive(Drop)]
+#[derive(Clone, Copy)]
 pub struct Ring {
     pub head: usize,
     pub len: usize,

@@ -1,4 +1,6 @@
 // One call of the receiver with the record of its find: what the reading program does, but for reading and writing.
+#![tactic(auto)]
+
 ghost use Rattle.std.specs.Prelude.{◌≡◌, length};
 ghost use Rattle.block.specs.Block.{put};
 ghost use Rattle.house.specs.Records.{length_of, record_bytes};
@@ -10,7 +12,7 @@ use house::{Record, Written};
 use receiver::{Find, Receiver, Step};
 
 // What a call gave, and how many bytes of the output block are held.
-#[derive(Drop)]
+#[derive(Clone, Copy)]
 pub struct Wrote {
     pub step: Step,
     pub at: usize,

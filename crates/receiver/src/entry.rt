@@ -18,7 +18,7 @@ use crate::{Find, Receiver, Stage, Stamp, Step, judge, stages, stamps};
 use wire::TpWord;
 
 // With a find of the header; at its low-latency part, if there is one; among ordinary bytes.
-#[derive(Drop)]
+#[derive(Clone, Copy)]
 pub enum Begun {
     Gives(Step),
     Part { low: bool, offset: usize, at: usize },
@@ -26,7 +26,7 @@ pub enum Begun {
 }
 
 // A TP's header: of another stream; not to be read, by this notice; or its flag and its offset.
-#[derive(Drop)]
+#[derive(Clone, Copy)]
 pub enum Top {
     Elsewhere,
     Dropped(u8),

@@ -13,7 +13,7 @@ use crate::{Place, kind};
 use wire::{Header, Read};
 
 // What a packet is known by.
-#[derive(Drop)]
+#[derive(Clone, Copy)]
 pub struct Tag {
     content: u8,
     repaired: u64,

@@ -4,7 +4,7 @@ ghost use Rattle.receiver.specs.Kind.{kind_of, piece_of};
 
 use wire::{Header, Sort};
 
-#[derive(Drop)]
+#[derive(Clone, Copy)]
 pub enum Kind {
     Fill,
     Reserved,

@@ -19,7 +19,7 @@ use wire::{Header, Read};
 
 // What a receiver stands in before a TP: in none; out of step; between two EPs; in a header, of which these bytes are read; in
 // the data of a complete EP, of which so many are left, and so many in the room.
-#[derive(Drop)]
+#[derive(Clone, Copy)]
 pub enum Lane {
     Other,
     Lost,
@@ -40,7 +40,7 @@ pub enum Lane {
 
 // What reading comes to: something that is left to a call; a notice that puts out of step, and nothing more; the TP's end; an EP
 // that begins there; a packet, and where the next EP begins.
-#[derive(Drop)]
+#[derive(Clone, Copy)]
 pub enum Met {
     Other,
     Drops(u8),

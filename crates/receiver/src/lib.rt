@@ -1,4 +1,6 @@
 // The receiver: opened once, called for one find at a time, told of gaps; and the stretch that a find names.
+#![tactic(auto)]
+
 ghost use Rattle.std.specs.Prelude.{◌≡◌, ◌≤◌, length, take, drop};
 ghost use Rattle.receiver.specs.State.{Able};
 ghost use Rattle.receiver.specs.Call.{call_as, call_of, always, Gives, fresh_of, gap_of, pending_of, under_way, OpenedAs, data_of, lasts};
@@ -27,7 +29,7 @@ use walk::{Kept, Phase, Walk};
 use wire::Header;
 
 // One call's answer. Document 01's number is 1 for Refused, and a notice's own.
-#[derive(Drop)]
+#[derive(Clone, Copy)]
 pub enum Find {
     Nothing,
     Refused,
@@ -44,7 +46,7 @@ pub enum Find {
 }
 
 // Where a TP stands: not begun; in its low-latency part; before its ordinary bytes; among them. The offset is kept.
-#[derive(Drop)]
+#[derive(Clone, Copy)]
 pub enum Stage {
     Fresh,
     Low(usize),
@@ -53,21 +55,21 @@ pub enum Stage {
 }
 
 // By what a TP is known: its number, and the byte of a recording at which it stands, if that is told.
-#[derive(Drop)]
+#[derive(Clone, Copy)]
 pub struct Stamp {
     pub number: u64,
     pub byte: u64,
 }
 
 // A place of a TP's payload.
-#[derive(Drop)]
+#[derive(Clone, Copy)]
 pub struct Place {
     pub stamp: Stamp,
     pub at: usize,
 }
 
 // `count` is that of the TPs of its length and stream given since opening.
-#[derive(Drop)]
+#[derive(Clone, Copy)]
 pub struct Receiver {
     size: usize,
     stream: u8,
@@ -80,7 +82,7 @@ pub struct Receiver {
 // What the bytes of a piece are: passed over or dropped (also none at all); an LLEP with its end byte; a header, or an LLEP,
 // beyond reading; a header's, that the TP's end cuts; a header's, now whole; data of an EP that is passed over; data that
 // are kept, from this place of the room on.
-#[derive(Drop)]
+#[derive(Clone, Copy)]
 pub enum Role {
     Passed,
     Llep(Header),
@@ -92,7 +94,7 @@ pub enum Role {
 }
 
 // A stretch of the TP's payload.
-#[derive(Drop)]
+#[derive(Clone, Copy)]
 pub struct Piece {
     pub from: usize,
     pub to: usize,
@@ -100,13 +102,13 @@ pub struct Piece {
 }
 
 // Whether a piece ends a call, and its find.
-#[derive(Drop)]
+#[derive(Clone, Copy)]
 pub enum Told {
     More,
     Gives(Find),
 }
 
-#[derive(Drop)]
+#[derive(Clone, Copy)]
 pub struct Turned {
     pub receiver: Receiver,
     pub piece: Piece,
@@ -114,7 +116,7 @@ pub struct Turned {
     pub about: About,
 }
 
-#[derive(Drop)]
+#[derive(Clone, Copy)]
 pub enum Opened {
     Refused,
     Ready(Receiver),
@@ -122,20 +124,20 @@ pub enum Opened {
 
 // What a find carries beside it: how many bits were repaired in the EP headers of a packet, and in its end byte if it is
 // low-latency; 0 for any other find. And the place of its first EP byte, or of the EP that a notice names; else place 0.
-#[derive(Drop)]
+#[derive(Clone, Copy)]
 pub struct About {
     pub repaired: u64,
     pub at: Place,
 }
 
 // Where what is unfinished began.
-#[derive(Drop)]
+#[derive(Clone, Copy)]
 pub enum Unfinished {
     Nothing,
     From(Place),
 }
 
-#[derive(Drop)]
+#[derive(Clone, Copy)]
 pub struct Step {
     pub receiver: Receiver,
     pub find: Find,

@@ -10,7 +10,7 @@ use crate::{Find, Told, kind, stride};
 use golay::End;
 use wire::{Header, Read};
 
-#[derive(Drop)]
+#[derive(Clone, Copy)]
 pub enum Llep {
     Broken,
     Whole { header: Header, more: bool },
@@ -18,7 +18,7 @@ pub enum Llep {
 
 // What a walk comes to: the broken place; the part's end; or a find, the total that it carries, its LLEP's place, whether
 // another LLEP follows, and the place behind it.
-#[derive(Drop)]
+#[derive(Clone, Copy)]
 pub enum Lows {
     Broken(usize),
     End(usize),
@@ -31,7 +31,7 @@ pub enum Lows {
     },
 }
 
-#[derive(Drop)]
+#[derive(Clone, Copy)]
 pub enum One {
     Stop(Lows),
     More(usize),

@@ -10,7 +10,7 @@ use crate::{Place, Stamp, stamps, walk};
 use wire::Read;
 
 // The forecast: out of step; a header beyond repair; bytes before the next EP's first one.
-#[derive(Drop)]
+#[derive(Clone, Copy)]
 pub enum Fore {
     Off,
     Bad,
@@ -18,14 +18,14 @@ pub enum Fore {
 }
 
 // Where the first EP that begins here stands: not among the bytes from here on, by this notice, or behind so many of them.
-#[derive(Drop)]
+#[derive(Clone, Copy)]
 pub enum Offset {
     Outside(u8),
     Behind(usize),
 }
 
 // What the forecast decides: the walk to read on with, or the notice that puts out of step.
-#[derive(Drop)]
+#[derive(Clone, Copy)]
 pub enum Start {
     Reads(Walk),
     Loses(u8),

@@ -11,7 +11,7 @@ use wire::{Header, Read};
 
 // What a series comes to: something to be judged stands at that place; the TP ends between two EPs; or in data of an EP that began there, of
 // which so many are left; or the packet is whole. So many of its bytes are in the room.
-#[derive(Drop)]
+#[derive(Clone, Copy)]
 pub enum Course {
     Stops {
         at: usize,
@@ -33,7 +33,7 @@ pub enum Course {
 }
 
 // A packet of which so many bytes are in the room; at that place its next EP is looked for, if of the EP that began at `from` nothing is left.
-#[derive(Drop)]
+#[derive(Clone, Copy)]
 pub enum Chain {
     No,
     Of {

@@ -19,14 +19,14 @@ use crate::walk::{Answer, Gain, Kept, Phase, Walk};
 use crate::{About, Find, Place, Receiver, Stage, Stamp, Step, entry, judge, low, outset, stamps};
 
 // What a stage comes to, whatever room is lent: its find, or the walk to read on with up to the next one.
-#[derive(Drop)]
+#[derive(Clone, Copy)]
 pub enum Course {
     Gives(Step),
     Reads(Walk),
 }
 
 // The stamps of a call: that of a find which leaves the receiver as it was (1, 6, 8), and that of any other.
-#[derive(Drop)]
+#[derive(Clone, Copy)]
 pub struct Stamps {
     pub before: Stamp,
     pub now: Stamp,

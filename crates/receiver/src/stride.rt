@@ -18,7 +18,7 @@ use crate::{Place, Stamp, judge, stamps, walk};
 use wire::{Header, Read};
 
 // Behind middles of the packet that is kept: where in the TP, and how many of its bytes are in the room.
-#[derive(Drop)]
+#[derive(Clone, Copy)]
 pub struct Joined {
     pub at: usize,
     pub len: usize,

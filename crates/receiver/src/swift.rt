@@ -20,7 +20,7 @@ use wire::Header;
 
 // Where a call goes on in a TP: it is left to a call by value; its header drops it; it is over, out of step; in the low-latency part; behind it;
 // between two EPs.
-#[derive(Drop)]
+#[derive(Clone, Copy)]
 pub enum Spot {
     Other,
     Gone(u8),
@@ -31,21 +31,21 @@ pub enum Spot {
 }
 
 // Before ordinary bytes: a find, or where it goes on.
-#[derive(Drop)]
+#[derive(Clone, Copy)]
 pub enum Part {
     Told(Swift),
     On(Spot),
 }
 
 // Left to a call by value, or the find and what it carries.
-#[derive(Drop)]
+#[derive(Clone, Copy)]
 pub enum Swift {
     Other,
     Gives { find: Find, about: About },
 }
 
 // How many bytes stand before the first EP that begins in a TP without low-latency part.
-#[derive(Drop)]
+#[derive(Clone, Copy)]
 pub enum Begun {
     Other,
     Behind(usize),
@@ -121,7 +121,7 @@ fn hands(h: Header) -> bool
 }
 
 // What is kept, by its parts.
-#[derive(Drop)]
+#[derive(Clone, Copy)]
 pub struct Held {
     content: u8,
     repaired: u64,

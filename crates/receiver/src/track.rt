@@ -33,7 +33,7 @@ pub const BUSY: usize = 3;
 pub const NONE: usize = 4;
 
 // What the numbers beside the sort say is a lane's; those that a sort doesn't need are whatever they were.
-#[derive(Drop)]
+#[derive(Clone, Copy)]
 pub struct Track {
     pub sort: usize,
     pub number: u64,
@@ -57,7 +57,7 @@ pub const BEGINS: usize = 2;
 
 pub const WHOLE: usize = 3;
 
-#[derive(Drop)]
+#[derive(Clone, Copy)]
 pub struct Sight {
     pub sort: usize,
     pub from: usize,
@@ -73,7 +73,7 @@ pub const AT: usize = 2;
 
 pub const PACKET: usize = 3;
 
-#[derive(Drop)]
+#[derive(Clone, Copy)]
 pub struct Onto {
     pub sort: usize,
     pub place: usize,
@@ -83,7 +83,7 @@ pub struct Onto {
 }
 
 // An LLEP that is a packet.
-#[derive(Drop)]
+#[derive(Clone, Copy)]
 pub struct Brief {
     pub found: bool,
     pub more: bool,

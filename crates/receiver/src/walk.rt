@@ -10,7 +10,7 @@ use wire::Header;
 
 // Out of step; in a header, of which these bytes are read (none between two EPs); behind a header that got 14; in an
 // EP's data, of which so many bytes are left.
-#[derive(Drop)]
+#[derive(Clone, Copy)]
 pub enum Phase {
     Lost,
     Head { have: usize, word: u64 },
@@ -20,7 +20,7 @@ pub enum Phase {
 
 // What is kept at the room's start: a packet of this content, in the headers of whose EPs so many bits were repaired, and
 // where it began. Inside an EP nothing kept means that it is passed over.
-#[derive(Drop)]
+#[derive(Clone, Copy)]
 pub enum Kept {
     Empty,
     Of {
@@ -32,7 +32,7 @@ pub enum Kept {
 }
 
 // `began` is the place of the header or EP under way; where there is none, nobody reads it.
-#[derive(Drop)]
+#[derive(Clone, Copy)]
 pub struct Walk {
     pub at: usize,
     pub phase: Phase,
@@ -41,7 +41,7 @@ pub struct Walk {
 }
 
 // A notice is of the EP under way.
-#[derive(Drop)]
+#[derive(Clone, Copy)]
 pub enum Gain {
     Nothing,
     Notice(u8),
@@ -53,13 +53,13 @@ pub enum Gain {
     },
 }
 
-#[derive(Drop)]
+#[derive(Clone, Copy)]
 pub struct Answer {
     pub walk: Walk,
     pub gain: Gain,
 }
 
-#[derive(Drop)]
+#[derive(Clone, Copy)]
 pub enum Turn {
     More(Walk),
     Stop(Answer),

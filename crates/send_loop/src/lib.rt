@@ -1,5 +1,7 @@
 // The sending program but for its main: house records of SPs and draws in, house records of TPs out (document 01, 'Records and
 // programs'). A refused offer is skipped, and told on standard error.
+#![tactic(auto)]
+
 ghost use Rattle.std.specs.Prelude.{◌≡◌, ◌+◌, ◌≤◌, ◌<◌, length};
 ghost use Rattle.house.specs.Records.{length_of};
 ghost use Rattle.sender.specs.Opening.{Sound};
@@ -12,7 +14,7 @@ use sender::{Answer, Sender};
 
 // Between two records: the sender, how much of the output block is held, where in the input block the last record began and the
 // next one begins, and the number of the last one's refusal, or 0.
-#[derive(Drop)]
+#[derive(Clone, Copy)]
 struct Run {
     sender: Sender,
     at: usize,

@@ -8,7 +8,7 @@ use crate::Refusal;
 use wire::Sort;
 
 // What a check of a packet comes to.
-#[derive(Drop)]
+#[derive(Clone, Copy)]
 pub enum Check {
     Fine,
     No(Refusal),

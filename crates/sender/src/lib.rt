@@ -1,4 +1,6 @@
 // The sender: opening, two offers, and the draw.
+#![tactic(auto)]
+
 ghost use Rattle.std.specs.Prelude.{◌≡◌, ◌+◌, length};
 ghost use Rattle.sender.specs.Answers.{given_by, done, lent};
 ghost use Rattle.sender.specs.Opening.{opened, Sound, SoundAnswer};
@@ -18,7 +20,7 @@ use checks::Check;
 use queue::Ring;
 
 // Document 01's numbers 1 to 5.
-#[derive(Drop)]
+#[derive(Clone, Copy)]
 pub enum Refusal {
     Limits,
     Content,
@@ -28,7 +30,7 @@ pub enum Refusal {
 }
 
 // What the opening set: P, the stream, F, and the lengths of the two queue buffers. Public as a type only: its fields are private.
-#[derive(Drop)]
+#[derive(Clone, Copy)]
 pub struct Setting {
     payload: usize,
     stream: usize,
@@ -38,7 +40,7 @@ pub struct Setting {
 }
 
 // The two queues, the fill bytes owed, and how many bytes at the ordinary queue's head belong to the EP under way.
-#[derive(Drop)]
+#[derive(Clone, Copy)]
 pub struct Sender {
     setting: Setting,
     low: Ring,
@@ -47,7 +49,7 @@ pub struct Sender {
     rest: usize,
 }
 
-#[derive(Drop)]
+#[derive(Clone, Copy)]
 pub enum Answer {
     Done(Sender),
     Refused(Refusal),

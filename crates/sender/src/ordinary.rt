@@ -43,7 +43,7 @@ pub fn fill_part(dst: &mut [u8], at: usize) -> usize
 }
 
 // The ring behind the part, how many queued bytes it took, and how many fill bytes are owed.
-#[derive(Drop)]
+#[derive(Clone, Copy)]
 pub struct Own {
     pub ring: Ring,
     pub gone: usize,

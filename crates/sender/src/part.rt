@@ -7,7 +7,7 @@ use crate::reading::low_at;
 use queue::Ring;
 
 // The ring behind the part, and the part's end in the TP.
-#[derive(Drop)]
+#[derive(Clone, Copy)]
 pub struct Part {
     pub ring: Ring,
     pub at: usize,

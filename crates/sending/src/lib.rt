@@ -1,4 +1,6 @@
 // One record in, records out: what the sending program does, but for reading and writing.
+#![tactic(auto)]
+
 ghost use Rattle.std.specs.Prelude.{◌≡◌};
 ghost use Rattle.sender.specs.Opening.{Sound};
 ghost use Rattle.sender.specs.Answers.{number};
@@ -8,7 +10,7 @@ use house::{Record, Written};
 use sender::{Answer, Refusal, Sender};
 
 // The sender, how many bytes of the output block are held, and document 01's number if an offer was refused, else 0.
-#[derive(Drop)]
+#[derive(Clone, Copy)]
 pub struct Turned {
     pub sender: Sender,
     pub at: usize,

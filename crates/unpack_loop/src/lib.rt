@@ -1,5 +1,7 @@
 // The unpacking program but for its main: house records of TPs and gaps in, the Chapter 11 packets that are handed out, reassembled
 // and one right behind the other, out (R-1 of document 02). A refused one is left out, and told on standard error.
+#![tactic(auto)]
+
 ghost use Rattle.std.specs.Prelude.{length, ◌≤◌};
 ghost use Rattle.receiver.specs.State.{Able};
 ghost use Rattle.unpack_loop.specs.Running.{Fit, Onward, Ready, Ahead};
@@ -13,7 +15,7 @@ const FINDS: u64 = 65536;
 
 // Between two finds: the receiver, how much of the output block is held, where in the input block the record begins, and the number
 // of the last refusal, or 0.
-#[derive(Drop)]
+#[derive(Clone, Copy)]
 struct Run {
     receiver: Receiver,
     at: usize,

@@ -1,4 +1,6 @@
 // One call of the receiver with the Chapter 11 packet of its find: what c7unpack does, but for reading and writing.
+#![tactic(auto)]
+
 ghost use Rattle.std.specs.Prelude.{◌≡◌};
 ghost use Rattle.receiver.specs.State.{Able};
 ghost use Rattle.receiver.specs.Call.{call_of, Gives, data_of};
@@ -8,14 +10,14 @@ use chapter11::Answer;
 use receiver::{Find, Receiver, Step};
 
 // How many bytes of the output block are held, and the number if a packet was refused, else 0.
-#[derive(Drop)]
+#[derive(Clone, Copy)]
 pub struct Unpacked {
     pub at: usize,
     pub refused: u8,
 }
 
 // What a call gave, and what became of it.
-#[derive(Drop)]
+#[derive(Clone, Copy)]
 pub struct Stepped {
     pub step: Step,
     pub unpacked: Unpacked,

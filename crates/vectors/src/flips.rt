@@ -3,7 +3,7 @@ use golay::{Decoded, End};
 use std::num::wrapping_add_u32;
 
 // How many answers of each count of flips, four meaning beyond repair; and a digest of all in order.
-#[derive(Drop)]
+#[derive(Clone, Copy)]
 pub struct Tally {
     pub counts: [u32; 5],
     pub digest: u64,

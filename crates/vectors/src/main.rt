@@ -1,6 +1,8 @@
 // Only tests need this crate.
 // Runs the Golay code over whole tables and prints counts and digests. The file stdout beside src/ is
 // what Appendix 7-A's own C code gives (second/appendix.c), so a difference is a fault of the crate.
+#![tactic(auto)]
+
 mod flips;
 mod report;
 

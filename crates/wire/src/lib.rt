@@ -1,4 +1,6 @@
 // EP header and TP header: numbers to bytes, and back from any maker's bytes.
+#![tactic(auto)]
+
 ghost use Rattle.std.specs.Prelude.{◌≡◌, ◌+◌, ◌≤◌, eqb};
 ghost use Rattle.std.proofs.Math.Option.{some};
 ghost use Rattle.wire.specs.Wire.{word, header, offset_number, tp_header};
@@ -13,7 +15,7 @@ use golay::Mended;
 pub use limits::{is_allowed, is_link};
 
 // What a header says, and how many bits were repaired in it.
-#[derive(Drop)]
+#[derive(Clone, Copy)]
 pub struct Header {
     pub content: u8,
     pub fragment: u8,
@@ -22,20 +24,20 @@ pub struct Header {
 }
 
 // Six bytes read as an EP header.
-#[derive(Drop)]
+#[derive(Clone, Copy)]
 pub enum Read {
     Beyond,
     Whole(Header),
 }
 
 // Three bytes read as a TP's Golay word.
-#[derive(Drop)]
+#[derive(Clone, Copy)]
 pub enum TpWord {
     Beyond,
     Says { low: bool, offset: usize },
 }
 
-#[derive(Drop)]
+#[derive(Clone, Copy)]
 pub enum Sort {
     Fill,
     Known,

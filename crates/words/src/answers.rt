@@ -18,7 +18,7 @@ fn word_at(words: &[u8], i: usize) -> u32
 }
 
 // What a word is read as: 8 times the number plus the flips, or 4 beyond repair; and where the flips were.
-#[derive(Drop)]
+#[derive(Clone, Copy)]
 struct Told {
     value: u32,
     places: u32,

@@ -1,6 +1,8 @@
 // Only tests need this crate.
 // Runs the Golay code over sections of words from standard input, and prints a line for each: second/words.h.
 // The file stdout beside src/ is what the second program prints.
+#![tactic(auto)]
+
 mod answers;
 
 // No input has so many sections: the loop ends for this.

@@ -1,0 +1,16 @@
+-- `queue::fill_at` meets its contract: the first i bytes are written. The measure is what is left of k. Assumes nothing.
+use lib.ListN.{set}
+use mathlib.Core.Path.{◌≡◌, refl, sym, ap, ◌∙◌}
+use Prim.Native.Nat.{◌+◌, ◌-◌, ◌≤◌, min}
+use native.Mathlib.Numerals.{add-one}
+use native.Mathlib.Omega.{arith}
+use borrow.Author.Rules.{rules}
+use lib.ListN.{length, length-set, length-replicate, replicate, get_or-replicate}
+use lib.Seq.{paste, paste-zero, paste-suc}
+use Rattle.queue.proofs.fill_at.Given as goal
+
+abbrev pub invariant-loop-i : goal.invariant-loop-i
+invariant-loop-i l = (l.i ≤ l.k) × ((l.k ≡ min l.n (length l.initial.dst - l.at)) × ((l.dst ≡ paste l.initial.dst l.at (replicate l.n l.v) l.i) × (length l.dst ≡ length l.initial.dst)))
+
+abbrev pub decreases-loop-i : goal.decreases-loop-i
+decreases-loop-i l = l.k - l.i
