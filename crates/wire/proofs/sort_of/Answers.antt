@@ -6,8 +6,7 @@ use native.Mathlib.Omega.{arith}
 use borrow.Author.Tests.{le-leb, lt-leb, eq-eqb, ne_eqb}
 use Rattle.wire.specs.declared.Sort.TheVariants.{Fill, Known, Reserved}
 use Rattle.wire.specs.Reading.{sort_of}
-use Rattle.wire.proofs.sort_of.Statement.{statement}
-use Rattle.wire.proofs.sort_of.Tie as tie
+use Rattle.wire.proofs.sort_of.Goals as goal
 
 fill : (n : ℕ) → n ≡ 0 → Fill ≡ sort_of n
 unfolding sort_of
@@ -24,17 +23,14 @@ reserved n h =
     let many : 6 < n = omega arith in
     simp (ne_eqb n 0 some, lt-leb n 6 many)
 
-returns : tie.Need-returns
-returns c = fill c.before.args.content c.match.keys1
+pub returns-in-0 : goal.returns-in-0
+returns-in-0 c = fill c.args.content c.in-0.is
 
-returns-2 : tie.Need-returns-2
-returns-2 c = known c.before.before.args.content c.before.match.rest.1 c.if1.true
+pub returns-in-1-to-6 : goal.returns-in-1-to-6
+returns-in-1-to-6 c = known c.args.content c.in-1-to-6.in_default-own.rest.1 c.in-1-to-6.if-content-lt7-own.true
 
-returns-3 : tie.Need-returns-3
-returns-3 c = reserved c.before.before.before.args.content c.before.if1.false
+pub returns-in-7-to-15 : goal.returns-in-7-to-15
+returns-in-7-to-15 c = reserved c.args.content c.in-7-to-15.if-content-lt7-own.false
 
-returns-4 : tie.Need-returns-4
-returns-4 c = reserved c.before.before.before.args.content c.before.if1.false
-
-pub sort-of-spec : {M : Type 1} → statement M
-sort-of-spec = tie.close (tie.spec returns returns-2 returns-3 returns-4)
+pub returns-in_default : goal.returns-in_default
+returns-in_default c = reserved c.args.content c.in_default.if-content-lt7-own.false

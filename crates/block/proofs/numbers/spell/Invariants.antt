@@ -1,0 +1,15 @@
+-- `numbers::spell` meets its contract: each turn writes the last digit that is left, and then one is left.
+-- Assumes nothing.
+use Prim.Native.Nat.{◌+◌, ◌%◌}
+use mathlib.Core.Path.{◌≡◌, refl, ◌∙◌}
+use native.Mathlib.Omega.{arith}
+use lib.ListN.{length, length-set}
+use borrow.Author.Rules.{rules}
+use Rattle.block.proofs.Decimals.{decimal_some, Spelt, spelt_none, spelt_in, spelt_on, spelt_one, spelt_all}
+use Rattle.block.proofs.numbers.spell.Given as goal
+
+abbrev pub invariant-loop-rest : goal.invariant-loop-rest
+invariant-loop-rest l = Spelt l.initial.out l.end l.n l.out l.i l.rest × (length l.out ≡ length l.initial.out)
+
+abbrev pub decreases-loop-rest : goal.decreases-loop-rest
+decreases-loop-rest l = l.rest

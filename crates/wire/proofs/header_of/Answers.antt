@@ -1,0 +1,9 @@
+-- `wire::header_of` meets its contract: both code words at once, each as three bytes.
+-- Assumes nothing.
+use Rattle.wire.specs.Wire.{word, first_number, header}
+use borrow.Author.Rules.{rules}
+use Rattle.wire.proofs.header_of.Goals as goal
+
+pub returns : goal.returns
+unfolding header first_number word
+returns c = rw (c.three_of-b.ensures, c.three_of-a.ensures, c.encode_pair-pair.ensures)
