@@ -1,0 +1,7 @@
+-- `house::head::head_of` meets its contract: each byte is what its callee ensures.
+-- Assumes nothing.
+use borrow.Author.Rules.{rules}
+use Rattle.house.proofs.head.head_of.Goals as goal
+
+pub returns : goal.returns
+returns c = rw (c.kind_of.ensures, c.content_of.ensures, c.four_of-n.ensures, c.length_of.ensures)

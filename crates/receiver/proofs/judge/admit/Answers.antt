@@ -1,0 +1,23 @@
+-- `receiver::judge::admit` meets its contract: each kind is one of the definition's cases.
+-- Assumes nothing.
+use mathlib.Core.Path.{sym, ◌∙◌}
+use borrow.Author.Rules.{rules}
+use Rattle.receiver.proofs.judge.admit.Goals as goal
+
+pub returns-in-Fill : goal.returns-in-Fill
+returns-in-Fill c = simp (sym c.kind_of.ensures ∙ c.in-Fill.is, c.more.ensures, c.emptied.ensures)
+
+pub returns-in-Reserved : goal.returns-in-Reserved
+returns-in-Reserved c = simp (sym c.kind_of.ensures ∙ c.in-Reserved.is, c.stop.ensures, c.emptied-in-Reserved.ensures)
+
+pub returns-in-Complete : goal.returns-in-Complete
+returns-in-Complete c = simp (sym c.kind_of.ensures ∙ c.in-Complete.is, c.fits.ensures)
+
+pub returns-in-First : goal.returns-in-First
+returns-in-First c = simp (sym c.kind_of.ensures ∙ c.in-First.is, c.fits3.ensures)
+
+pub returns-in-Middle : goal.returns-in-Middle
+returns-in-Middle c = simp (sym c.kind_of.ensures ∙ c.in-Middle.is, c.further.ensures)
+
+pub returns-in-Last : goal.returns-in-Last
+returns-in-Last c = simp (sym c.kind_of.ensures ∙ c.in-Last.is, c.further-in-Last.ensures)

@@ -1,0 +1,17 @@
+-- `receiver::judge::whole` meets its contract: the two answers of the header code.
+-- Assumes nothing.
+use mathlib.Core.Path.{sym, ◌∙◌}
+use Rattle.wire.specs.Reading.{header_in}
+use borrow.Author.Rules.{rules}
+use Rattle.receiver.proofs.Gather.{beyond_read, whole_read}
+use Rattle.receiver.proofs.judge.whole.Goals as goal
+
+pub returns-in-Beyond : goal.returns-in-Beyond
+returns-in-Beyond c =
+    let a = c.args in
+    rw c.emptied.ensures at c.stop.ensures ∙ beyond_read a.at a.began a.kept a.cap (header_in a.word) (sym c.read_header.ensures ∙ c.in-Beyond.is)
+
+pub returns-in-Whole : goal.returns-in-Whole
+returns-in-Whole c =
+    let a = c.args in
+    c.opened.ensures ∙ whole_read a.at a.began a.kept a.cap c.in-Whole.header (header_in a.word) (sym c.read_header.ensures ∙ c.in-Whole.is)

@@ -1,0 +1,22 @@
+-- `receiver::low::walk` meets its contract: the invariant: the walk from here says what the walk from the start says. The measure is what is left of the TP.
+-- Assumes nothing.
+use mathlib.Core.Path.{sym, ◌∙◌}
+use Prim.Native.Nat.{◌-◌, ◌≤◌}
+use native.Mathlib.Omega.{arith}
+use lib.ListN.{length}
+use borrow.Author.Rules.{rules}
+use Rattle.receiver.specs.Forecast.{start}
+use Rattle.receiver.proofs.Walking.{Goes, ahead_at, goes_on_at, starts, stops_at}
+use Rattle.receiver.proofs.low.walk.Goals as goal
+
+pub loop-r-init : goal.loop-r-init
+loop-r-init c = let a = c.args in (c.requires, starts a.tp.now a.start)
+
+pub loop-r-smaller : goal.loop-r-smaller
+loop-r-smaller c = let a = c.args in let l = c.loop-r in omega (arith, ahead_at a.tp.now l.at _ (sym c.single.ensures ∙ c.in-More.is))
+
+pub loop-r-preserved : goal.loop-r-preserved
+loop-r-preserved c = let a = c.args in let l = c.loop-r in ((ahead_at a.tp.now l.at _ (sym c.single.ensures ∙ c.in-More.is)).1, goes_on_at a.tp.now a.start l.at _ (sym c.single.ensures ∙ c.in-More.is) l.invariant.1)
+
+pub returns : goal.returns
+returns c = let a = c.args in let l = c.loop-r in stops_at a.tp.now a.start l.at _ (sym c.single.ensures ∙ c.in-Stop.is) l.invariant.1

@@ -1,0 +1,9 @@
+-- `receiver::pieces::data_role` meets its contract: kept, or passed over.
+-- Assumes nothing.
+use mathlib.Core.Path.{ap, sym}
+use Rattle.receiver.specs.Pieces.{data_role}
+use borrow.Author.Rules.{rules}
+use Rattle.receiver.proofs.pieces.data_role.Goals as goal
+
+pub returns-in-Of : goal.returns-in-Of
+returns-in-Of c = sym (ap data_role c.in-Of.is)

@@ -1,0 +1,7 @@
+-- `receiver::pieces::drop_rest` meets its contract by what it calls.
+-- Assumes nothing.
+use borrow.Author.Rules.{rules}
+use Rattle.receiver.proofs.pieces.drop_rest.Goals as goal
+
+pub returns : goal.returns
+returns c = rw (c.gave.ensures, c.piece_of.ensures, c.step_to-step.ensures)

@@ -1,0 +1,7 @@
+-- `receiver::pieces::same` meets its contract: nothing is read.
+-- Assumes nothing.
+use borrow.Author.Rules.{rules}
+use Rattle.receiver.proofs.pieces.same.Goals as goal
+
+pub returns : goal.returns
+returns c = rw (c.gave.ensures, c.piece_of.ensures, c.step_same.ensures, c.start-place.ensures, c.own.ensures)

@@ -1,0 +1,15 @@
+-- `receiver::series::course_of` meets its contract: in data that the TP's end cuts, or between two EPs.
+-- Assumes nothing.
+use Rattle.receiver.proofs.Serially.{runs_cut, runs_whole}
+use borrow.Author.Rules.{rules}
+use Rattle.receiver.proofs.series.course_of.Goals as goal
+
+pub returns-then-left-gt0 : goal.returns-then-left-gt0
+returns-then-left-gt0 c =
+    let a = c.args in
+    runs_cut a.tp.now a.at a.content a.len a.header a.from a.left a.room.now c.if-left-gt0.true
+
+pub returns : goal.returns
+returns c =
+    let a = c.args in
+    runs_whole _ a.tp.now a.at a.content a.len a.header a.from a.left a.room.now _ c.if-left-gt0.false c.run.ensures

@@ -1,0 +1,9 @@
+-- `receiver::stages::low_stage` meets its contract: another LLEP follows, or none.
+-- Assumes nothing.
+use Rattle.receiver.proofs.stages.low_stage.Goals as goal
+
+pub returns-then-more : goal.returns-then-more
+returns-then-more c = simp c.if-more.true
+
+pub returns : goal.returns
+returns c = simp c.if-more.false

@@ -1,0 +1,20 @@
+-- `receiver::swift::begin` meets its contract: what the header says, and where that points.
+-- Assumes nothing.
+use mathlib.Core.Path.{ap, sym, ◌∙◌}
+use mathlib.Core.Bool.{Bool}
+use Rattle.receiver.specs.declared.entry.Top.TheVariants.{Says}
+use Rattle.receiver.proofs.TakingUp.{says_small}
+use borrow.Author.Rules.{rules}
+use Rattle.receiver.proofs.swift.begin.Goals as goal
+
+pub place_of-requires : goal.place_of-requires
+place_of-requires c =
+    let e = sym c.read_top.ensures ∙ c.in-Says.is in
+    (says_small c.args.stream c.args.tp.now _ _ e, c.requires)
+
+pub returns-in-Behind : goal.returns-in-Behind
+returns-in-Behind c =
+    let a = c.args in
+    let o = c.in-Says.offset in
+    let e = sym c.read_top.ensures ∙ c.in-Says.is in
+    record { offset = o; top = e ∙ ap (λ (b : Bool). Says b o) c.if-low.false; place = sym c.place_of.ensures ∙ c.in-Behind.is }

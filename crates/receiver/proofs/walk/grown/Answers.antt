@@ -1,0 +1,12 @@
+-- `receiver::walk::grown` meets its contract: the length goes up.
+-- Assumes nothing.
+use borrow.Author.Rules.{rules}
+use native.Mathlib.Omega.{arith}
+use Rattle.receiver.proofs.Advancing.{grown_of}
+use Rattle.receiver.proofs.walk.grown.Goals as goal
+
+pub overflow_add-result : goal.overflow_add-result
+overflow_add-result c = let g = rw c.in-Of.is at c.requires in omega arith
+
+pub returns-in-Of : goal.returns-in-Of
+returns-in-Of c = grown_of c.args.n _ _ _ _ c.args.kept c.in-Of.is

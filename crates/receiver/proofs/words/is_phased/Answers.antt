@@ -1,0 +1,27 @@
+use borrow.Author.Tests.{eq-eqb}
+use Rattle.receiver.specs.Words.{phasedb}
+use Rattle.receiver.proofs.WordTests.{phased_judged, phased_past}
+use borrow.Author.Rules.{rules}
+use Rattle.receiver.proofs.words.is_phased.Reads as reads
+use Rattle.receiver.proofs.words.is_phased.Lts as lts
+use Rattle.receiver.proofs.words.bound.Reads as bound-reads
+use Rattle.receiver.proofs.words.is_under_way.Reads as is-under-way-reads
+use Rattle.receiver.proofs.words.is_phased.Goals as goal
+
+pub returns-then-sort-eq0 : goal.returns-then-sort-eq0
+unfolding phasedb
+returns-then-sort-eq0 c = simp (eq-eqb _ _ c.if-sort-eq0.true)
+
+pub returns-then-sort-eq1 : goal.returns-then-sort-eq1
+unfolding phasedb
+returns-then-sort-eq1 c = simp (c.if-sort-eq1.true, c.bound.ensures)
+
+pub returns-then-sort-gt3 : goal.returns-then-sort-gt3
+returns-then-sort-gt3 c = phased_past _ _ _ _ _ c.if-sort-gt3.true
+
+pub returns-then-sort-eq3 : goal.returns-then-sort-eq3
+unfolding phasedb
+returns-then-sort-eq3 c = simp (c.if-sort-eq3.true, c.is_under_way.ensures)
+
+pub returns : goal.returns
+returns c = phased_judged _ _ _ _ _ c.if-sort-eq0.false c.if-sort-eq1.false c.if-sort-eq3.false c.if-sort-gt3.false

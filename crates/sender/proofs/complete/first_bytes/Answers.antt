@@ -1,0 +1,34 @@
+-- `complete::first_bytes` meets its contract: each entry is a code word's bytes, by computing them. Assumes nothing.
+use mathlib.Core.Path.{refl}
+use Rattle.golay.specs.Golay.{chosen, code_word}
+use Rattle.wire.specs.Wire.{word}
+use Rattle.sender.proofs.Firsts.{bytes_entry, none_else}
+use Rattle.sender.proofs.complete.first_bytes.Goals as goal
+
+pub returns-in-1 : goal.returns-in-1
+unfolding word code_word chosen
+returns-in-1 c = bytes_entry c.args.content 1 _ c.in-1.is refl
+
+pub returns-in-2 : goal.returns-in-2
+unfolding word code_word chosen
+returns-in-2 c = bytes_entry c.args.content 2 _ c.in-2.is refl
+
+pub returns-in-3 : goal.returns-in-3
+unfolding word code_word chosen
+returns-in-3 c = bytes_entry c.args.content 3 _ c.in-3.is refl
+
+pub returns-in-4 : goal.returns-in-4
+unfolding word code_word chosen
+returns-in-4 c = bytes_entry c.args.content 4 _ c.in-4.is refl
+
+pub returns-in-5 : goal.returns-in-5
+unfolding word code_word chosen
+returns-in-5 c = bytes_entry c.args.content 5 _ c.in-5.is refl
+
+pub returns-in-6 : goal.returns-in-6
+unfolding word code_word chosen
+returns-in-6 c = bytes_entry c.args.content 6 _ c.in-6.is refl
+
+pub returns-in_default : goal.returns-in_default
+unfolding word code_word chosen
+returns-in_default c = absurd (none_else c.args.content c.requires c.in_default.in_default-own.rest.0.0.0.0.0.1 c.in_default.in_default-own.rest.0.0.0.0.1 c.in_default.in_default-own.rest.0.0.0.1 c.in_default.in_default-own.rest.0.0.1 c.in_default.in_default-own.rest.0.1 c.in_default.in_default-own.rest.1)
