@@ -12,7 +12,7 @@ use Rattle.sender.proofs.eps.put_sp.Goals as goal
 pub put_ep-requires : goal.put_ep-requires
 put_ep-requires c =
     let a = c.args in
-    record { kept = c.requires.kept; body_in_bounds = (room_one a.buf.now a.q a.content a.sp.now a.piece c.requires.kept c.requires.le_piece.1 c.if-sp-piece.true, omega arith) }
+    record { kept = c.requires.kept; body_in_bounds = (room_one a.buf.now a.q a.content a.sp.now a.piece c.requires.kept c.requires.sp_in_bounds c.if-sp-piece.true, omega arith) }
 
 pub returns-then-sp-lt4095 : goal.returns-then-sp-lt4095
 returns-then-sp-lt4095 c =
@@ -22,7 +22,7 @@ returns-then-sp-lt4095 c =
 pub put_ep-requires-then-sp-piece : goal.put_ep-requires-then-sp-piece
 put_ep-requires-then-sp-piece c =
     let a = c.args in
-    (c.requires.kept, (room_one a.buf.now a.q a.content a.sp.now a.piece c.requires.kept c.requires.le_piece.1 c.if-sp-piece.true, omega arith))
+    (c.requires.kept, (room_one a.buf.now a.q a.content a.sp.now a.piece c.requires.kept c.requires.sp_in_bounds c.if-sp-piece.true, omega arith))
 
 pub returns-then-sp-piece : goal.returns-then-sp-piece
 returns-then-sp-piece c =
@@ -32,18 +32,18 @@ returns-then-sp-piece c =
 pub put_ep-t-requires : goal.put_ep-t-requires
 put_ep-t-requires c =
     let a = c.args in
-    (c.requires.kept, (room_first a.buf.now a.q a.content a.sp.now a.piece c.requires.kept c.requires.le_piece.1 c.if-sp-piece.false, omega arith))
+    (c.requires.kept, (room_first a.buf.now a.q a.content a.sp.now a.piece c.requires.kept c.requires.sp_in_bounds c.if-sp-piece.false, omega arith))
 
 pub put_later-requires : goal.put_later-requires
 put_later-requires c =
     let a = c.args in
     let h = c.if-sp-piece.false in
-    let u = put_as a.buf.now a.q a.content 1 a.piece _ _ _ c.header_of-first.ensures (first_length a.buf.now a.q a.content a.sp.now a.piece c.requires.kept c.requires.le_piece.1 h) c.put_ep-t.ensures in
-    record { kept = kept_first a.buf.now a.q a.content a.sp.now a.piece c.requires.kept c.requires.le_piece.1 h _ _ u; le_piece = (c.requires.le_piece.0.0, c.requires.le_piece.0.1.0, h); sp_in_bounds = room_later a.buf.now a.q a.content a.sp.now a.piece c.requires.kept c.requires.le_piece.1 h _ _ u }
+    let u = put_as a.buf.now a.q a.content 1 a.piece _ _ _ c.header_of-first.ensures (first_length a.buf.now a.q a.content a.sp.now a.piece c.requires.kept c.requires.sp_in_bounds h) c.put_ep-t.ensures in
+    record { kept = kept_first a.buf.now a.q a.content a.sp.now a.piece c.requires.kept c.requires.sp_in_bounds h _ _ u; le_piece = (c.requires.le_piece.0, c.requires.le_piece.1.0, h); sp_in_bounds = room_later a.buf.now a.q a.content a.sp.now a.piece c.requires.kept c.requires.sp_in_bounds h _ _ u }
 
 pub returns : goal.returns
 returns c =
     let a = c.args in
     let h = c.if-sp-piece.false in
-    let u = put_as a.buf.now a.q a.content 1 a.piece _ _ _ c.header_of-first.ensures (first_length a.buf.now a.q a.content a.sp.now a.piece c.requires.kept c.requires.le_piece.1 h) c.put_ep-t.ensures in
-    put_more a.buf.now a.q a.content a.sp.now a.piece c.requires.kept c.requires.le_piece.1 h _ _ u _ _ c.put_later.ensures
+    let u = put_as a.buf.now a.q a.content 1 a.piece _ _ _ c.header_of-first.ensures (first_length a.buf.now a.q a.content a.sp.now a.piece c.requires.kept c.requires.sp_in_bounds h) c.put_ep-t.ensures in
+    put_more a.buf.now a.q a.content a.sp.now a.piece c.requires.kept c.requires.sp_in_bounds h _ _ u _ _ c.put_later.ensures
