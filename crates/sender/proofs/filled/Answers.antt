@@ -42,7 +42,7 @@ ordinary_part-o-requires c =
     let m = c.requires.sound.payload_most in
     let o = c.requires.sound.owed in
     let d = c.low_part-p.ensures.same in
-    (kept_own c.args.s w c.args.ordinary.now c.requires.low_len.1, (omega arith, omega arith, o))
+    record { kept = kept_own c.args.s w c.args.ordinary.now c.requires.low_len.1; at_in_bounds = (omega arith, omega arith, o) }
 
 pub overflow_sub-at : goal.overflow_sub-at
 overflow_sub-at c =
@@ -99,7 +99,7 @@ rest_after-rest-requires c =
     let k = c.low_part-p.ensures in
     let ed = sym k.same ∙ c.if-tp-g.false in
     let p = k.parted ed in
-    (kept_own a.s w a.ordinary.now c.requires.low_len.1, (w.rest, gone_few a.s w a.low.now a.ordinary.now a.tp.now _ _ _ _ _ _ _ c.requires.low_len.0 c.requires.low_len.1 ed p c.ordinary_part-o.ensures, space_most a.s w))
+    record { kept = kept_own a.s w a.ordinary.now c.requires.low_len.1; rest_le_len = (w.rest, gone_few a.s w a.low.now a.ordinary.now a.tp.now _ _ _ _ _ _ _ c.requires.low_len.0 c.requires.low_len.1 ed p c.ordinary_part-o.ensures, space_most a.s w) }
 
 pub shape_of-tp : goal.shape_of-tp
 shape_of-tp c =

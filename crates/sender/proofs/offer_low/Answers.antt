@@ -46,7 +46,7 @@ put_ep-t-requires c =
     let o = ap length (one_piece 65535 a.content a.sp.now (omega arith)) ∙ ep_length a.content 0 a.sp.now in
     let wh = c.requires.low_head_lem in
     let wl = c.requires.low_len in
-    (record { head = omega arith; len = omega arith }, omega arith)
+    record { kept = record { head = omega arith; len = omega arith }; body_in_bounds = omega arith }
 
 pub returns : goal.returns
 returns c =

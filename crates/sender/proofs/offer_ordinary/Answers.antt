@@ -27,7 +27,7 @@ put_sp-t-requires c =
     let wh = c.requires.head in
     let wl = c.requires.len in
     let n = f.1.1 in
-    (record { head = omega arith; len = omega arith }, ((w.piece_least, (w.piece_most, f.0)), omega arith))
+    record { kept = record { head = omega arith; len = omega arith }; le_piece = (w.piece_least, (w.piece_most, f.0)); sp_in_bounds = omega arith }
 
 pub returns : goal.returns
 returns c =

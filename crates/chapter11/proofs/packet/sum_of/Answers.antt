@@ -13,7 +13,7 @@ pub two_at-requires : goal.two_at-requires
 two_at-requires c = omega arith
 
 pub loop-i-preserved : goal.loop-i-preserved
-loop-i-preserved c = (search rules, next_sum c.args.header.now c.loop-i.i c.loop-i.sum c.two_at.result c.wrapping_add_u16-sum.result c.loop-i.invariant.1 c.two_at.ensures c.wrapping_add_u16-sum.ensures)
+loop-i-preserved c = (search rules, next_sum c.args.header.now c.loop-i.i c.loop-i.sum c.two_at.result c.wrapping_add_u16-sum.result c.loop-i.invariant.1 c.two_at.ensures c.wrapping_add_u16-sum.ensures.value)
 
 pub returns : goal.returns
 returns c =

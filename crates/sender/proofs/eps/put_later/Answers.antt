@@ -35,7 +35,7 @@ put_ep-t-requires c =
     let l = c.loop-i in
     let r = room_more a.buf.now a.q a.content a.sp.now a.piece l.buf l.t l.i l.invariant c.requires.kept c.requires.le_piece.0 c.requires.sp_in_bounds c.loop-i-test.true in
     let e = part_of a.sp.now l.i a.piece c.loop-i-test.true in
-    (sound a.buf.now a.q a.content a.sp.now a.piece l.buf l.t l.i l.invariant c.requires.kept c.requires.le_piece.0 c.requires.sp_in_bounds, (rw e r, omega arith))
+    record { kept = sound a.buf.now a.q a.content a.sp.now a.piece l.buf l.t l.i l.invariant c.requires.kept c.requires.le_piece.0 c.requires.sp_in_bounds; body_in_bounds = (rw e r, omega arith) }
 
 pub loop-i-smaller : goal.loop-i-smaller
 loop-i-smaller c = omega (arith, c.loop-i.invariant.place)

@@ -22,7 +22,7 @@ returns-then-sp-lt4095 c =
 pub put_ep-requires-then-sp-piece : goal.put_ep-requires-then-sp-piece
 put_ep-requires-then-sp-piece c =
     let a = c.args in
-    (c.requires.kept, (room_one a.buf.now a.q a.content a.sp.now a.piece c.requires.kept c.requires.sp_in_bounds c.if-sp-piece.true, omega arith))
+    record { kept = c.requires.kept; body_in_bounds = (room_one a.buf.now a.q a.content a.sp.now a.piece c.requires.kept c.requires.sp_in_bounds c.if-sp-piece.true, omega arith) }
 
 pub returns-then-sp-piece : goal.returns-then-sp-piece
 returns-then-sp-piece c =
@@ -32,7 +32,7 @@ returns-then-sp-piece c =
 pub put_ep-t-requires : goal.put_ep-t-requires
 put_ep-t-requires c =
     let a = c.args in
-    (c.requires.kept, (room_first a.buf.now a.q a.content a.sp.now a.piece c.requires.kept c.requires.sp_in_bounds c.if-sp-piece.false, omega arith))
+    record { kept = c.requires.kept; body_in_bounds = (room_first a.buf.now a.q a.content a.sp.now a.piece c.requires.kept c.requires.sp_in_bounds c.if-sp-piece.false, omega arith) }
 
 pub put_later-requires : goal.put_later-requires
 put_later-requires c =

@@ -16,7 +16,7 @@ loop-at-init c =
     (c.requires.rest_le_len.0, run a.n (held a.buf.now a.q) a.rest (omega (arith, length_held a.buf.now a.q c.requires.kept)))
 
 pub span_at-at-requires : goal.span_at-at-requires
-span_at-at-requires c = (c.requires.kept, (omega arith, c.requires.rest_le_len.2))
+span_at-at-requires c = record { kept = c.requires.kept; at_lt_len = (omega arith, c.requires.rest_le_len.2) }
 
 pub overflow_add-at : goal.overflow_add-at
 overflow_add-at c =

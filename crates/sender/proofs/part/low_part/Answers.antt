@@ -18,7 +18,7 @@ low_at-n-requires c =
     let l = c.loop-n in
     let r = room a.payload a.buf.now a.q a.tp.now l.tp l.t l.at l.invariant in
     let p = c.requires.payload_bound in
-    (l.invariant.sound, omega arith)
+    record { kept = l.invariant.sound; payload_bound = omega arith }
 
 pub shape_of-tp-then-tp-payload : goal.shape_of-tp-then-tp-payload
 shape_of-tp-then-tp-payload c = c.loop-n.invariant.size
