@@ -1,6 +1,5 @@
 -- `receiver::found` meets its contract: each find names its stretch.
 -- Assumes nothing.
-use borrow.Author.Rules.{rules}
 use Rattle.receiver.proofs.found.Goals as goal
 
 -- src/lib.rt:141:1

@@ -1,7 +1,6 @@
 -- `receiver::open` meets its contract: each refusal is one of the definition's tests, and what is opened is fresh.
 -- Assumes nothing.
 use native.Mathlib.Omega.{arith}
-use borrow.Author.Rules.{rules}
 use borrow.Author.Tests.{le-ltb, lt-ltb}
 use Rattle.receiver.proofs.open.Goals as goal
 

@@ -1,6 +1,5 @@
 -- `receiver::part` meets its contract: a clamped start and length take what `take` and `drop` take.
 -- Assumes nothing.
-use borrow.Author.Rules.{rules}
 use Rattle.receiver.proofs.Gather.{part_is}
 use Rattle.receiver.proofs.part.Goals as goal
 

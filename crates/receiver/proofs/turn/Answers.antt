@@ -6,7 +6,6 @@ use Rattle.receiver.specs.declared.Stage.{Stage}
 use Rattle.receiver.specs.declared.Stage.TheVariants.{Due}
 use Rattle.receiver.specs.State.{Staged}
 use Rattle.receiver.proofs.Promising.{turn_as, turn_at, turn_six}
-use borrow.Author.Rules.{rules}
 use Rattle.receiver.proofs.turn.Goals as goal
 
 pub returns-then-r-tp : goal.returns-then-r-tp

@@ -1,7 +1,6 @@
 -- `receiver::kind::kind_of` meets its contract: the sort of the content, then the fragment.
 -- Assumes nothing.
 use mathlib.Core.Path.{sym, ◌∙◌}
-use borrow.Author.Rules.{rules}
 use Rattle.receiver.specs.Kind.{kind_of}
 use Rattle.receiver.proofs.kind.kind_of.Goals as goal
 

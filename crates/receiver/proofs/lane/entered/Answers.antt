@@ -2,7 +2,6 @@
 -- Assumes nothing.
 use native.Mathlib.Omega.{arith}
 use Rattle.receiver.proofs.LaneAhead.{enters_cut, enters_whole}
-use borrow.Author.Rules.{rules}
 use Rattle.receiver.proofs.lane.entered.Goals as goal
 
 pub returns-then-n-size : goal.returns-then-n-size

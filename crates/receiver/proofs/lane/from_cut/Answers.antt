@@ -4,7 +4,6 @@ use native.Mathlib.Omega.{arith}
 use lib.ListN.{length}
 use Rattle.receiver.proofs.LaneAhead.{fits_of_lem}
 use Rattle.receiver.proofs.LaneOut.{cut_ends, cut_enters, cut_fill_lem, least_of, read_of_lem}
-use borrow.Author.Rules.{rules}
 use Rattle.receiver.proofs.lane.from_cut.Goals as goal
 
 pub returns-then-rest-missing : goal.returns-then-rest-missing

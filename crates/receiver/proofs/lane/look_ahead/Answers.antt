@@ -3,7 +3,6 @@
 use mathlib.Core.Path.{refl}
 use native.Mathlib.Omega.{arith}
 use Rattle.receiver.proofs.LaneAhead.{ahead_beyond, ahead_cut, ahead_idle, ahead_whole, fits_of_lem}
-use borrow.Author.Rules.{rules}
 use Rattle.receiver.proofs.lane.look_ahead.Goals as goal
 
 pub overflow_sub-rest : goal.overflow_sub-rest

@@ -1,7 +1,5 @@
 -- `receiver::low::closed` meets its contract: the end byte lies within the bytes, or the LLEP is broken.
 -- Assumes nothing.
-use mathlib.Core.Path.{◌∙◌}
-use borrow.Author.Rules.{rules}
 use Rattle.receiver.proofs.Walking.{closed_in, closed_out}
 use Rattle.receiver.proofs.low.closed.Goals as goal
 

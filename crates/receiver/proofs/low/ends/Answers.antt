@@ -1,7 +1,6 @@
 -- `receiver::low::ends` meets its contract: the three answers of the end byte.
 -- Assumes nothing.
 use mathlib.Core.Path.{sym, ◌∙◌}
-use borrow.Author.Rules.{rules}
 use Rattle.golay.proofs.Ends.{is_end}
 use Rattle.receiver.proofs.low.ends.Goals as goal
 

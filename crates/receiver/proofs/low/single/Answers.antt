@@ -1,7 +1,6 @@
 -- `receiver::low::single` meets its contract: an LLEP broken or passed.
 -- Assumes nothing.
 use mathlib.Core.Path.{sym, ◌∙◌}
-use borrow.Author.Rules.{rules}
 use Rattle.receiver.proofs.Walking.{inside_at}
 use Rattle.receiver.proofs.low.single.Goals as goal
 

@@ -2,9 +2,7 @@
 -- Assumes nothing.
 use mathlib.Core.Path.{sym, ◌∙◌}
 use native.Mathlib.Omega.{arith}
-use borrow.Author.Tests.{not-false}
 use Rattle.receiver.proofs.PassingOver.{data_if}
-use borrow.Author.Rules.{rules}
 use Rattle.receiver.proofs.over.is_data.Goals as goal
 
 pub returns : goal.returns

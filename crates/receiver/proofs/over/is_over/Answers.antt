@@ -1,9 +1,7 @@
 -- `receiver::over::is_over` meets its contract.
 -- Assumes nothing.
 use native.Mathlib.Omega.{arith}
-use borrow.Author.Tests.{not-false}
 use Rattle.receiver.proofs.PassingOver.{over_if}
-use borrow.Author.Rules.{rules}
 use Rattle.receiver.proofs.over.is_over.Goals as goal
 
 pub returns : goal.returns

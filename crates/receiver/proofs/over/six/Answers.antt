@@ -1,7 +1,6 @@
 -- `receiver::over::six` meets its contract.
 -- Assumes nothing.
 use native.Mathlib.Omega.{arith}
-use borrow.Author.Rules.{rules}
 use Rattle.receiver.proofs.over.six.Goals as goal
 
 pub overflow_cast-n : goal.overflow_cast-n

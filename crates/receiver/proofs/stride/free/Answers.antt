@@ -5,7 +5,6 @@ use lib.ListN.{length}
 use native.Mathlib.Omega.{arith}
 use Rattle.receiver.proofs.Standing.{complete_of_lem}
 use Rattle.receiver.proofs.Striding.{free_complete, free_on}
-use borrow.Author.Rules.{rules}
 use Rattle.receiver.proofs.stride.free.Goals as goal
 
 pub returns-in_default : goal.returns-in_default

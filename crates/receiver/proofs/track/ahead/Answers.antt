@@ -1,9 +1,7 @@
 -- `receiver::track::ahead` meets its contract: behind fill the TP ends, or a header stands there. Assumes nothing.
 use native.Mathlib.Omega.{arith}
-use borrow.Author.Tests.{not-false}
 use Rattle.receiver.proofs.LaneAhead.{fits_of_lem}
 use Rattle.receiver.proofs.TrackAhead.{seen_begins, seen_off, seen_tail, seen_whole}
-use borrow.Author.Rules.{rules}
 use Rattle.receiver.proofs.track.ahead.Goals as goal
 
 pub returns-then-rest-lt6 : goal.returns-then-rest-lt6

@@ -2,7 +2,6 @@
 -- Assumes nothing.
 use native.Mathlib.Omega.{arith}
 use Rattle.receiver.proofs.TrackOver.{beyond_told, broken_told, none_begins, offset_small, outside_told, undropped, word_over}
-use borrow.Author.Rules.{rules}
 use Rattle.receiver.proofs.track.dropped.Goals as goal
 
 pub returns-then-tp-r : goal.returns-then-tp-r

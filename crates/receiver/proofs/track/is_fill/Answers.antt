@@ -3,7 +3,6 @@
 use mathlib.Core.Path.{sym, ◌∙◌}
 use native.Mathlib.Omega.{arith}
 use Rattle.receiver.proofs.TrackOver.{filled_if}
-use borrow.Author.Rules.{rules}
 use Rattle.receiver.proofs.track.is_fill.Goals as goal
 
 pub overflow_cast-tp : goal.overflow_cast-tp

@@ -1,11 +1,8 @@
 -- `receiver::walk::gather` meets its contract: the invariant: the bytes read, then those left, make the same number. The measure is what is left.
 -- Assumes nothing.
 use mathlib.Core.Path.{refl, ◌≡◌}
-use Prim.Native.Nat.{suc, ◌+◌, ◌-◌, ◌<◌, ◌^◌, ◌≤◌}
+use Prim.Native.Nat.{suc, ◌+◌}
 use native.Mathlib.Omega.{arith}
-use lib.ListN.{drop, take}
-use borrow.Author.Rules.{rules}
-use Rattle.digits.specs.Digits.{number}
 use Rattle.receiver.proofs.Gather.{gather_off, gather_on, next_small, small}
 use Rattle.receiver.proofs.walk.gather.Goals as goal
 

@@ -1,9 +1,7 @@
 -- src/words.rt:286:1
-use borrow.Author.Tests.{le-leb, lt-leb, eq-eqb, ne_eqb, not-true, not-false}
+use borrow.Author.Tests.{lt-leb}
 use Rattle.receiver.specs.Words.{below}
 use Rattle.receiver.proofs.WordTests.{over_five}
-use Rattle.receiver.proofs.words.bound.Reads as reads
-use Rattle.receiver.proofs.words.bound.Lts as lts
 use Rattle.receiver.proofs.words.bound.Goals as goal
 
 pub returns-in-0 : goal.returns-in-0

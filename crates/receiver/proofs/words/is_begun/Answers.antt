@@ -1,7 +1,5 @@
 -- src/words.rt:250:9
-use borrow.Author.Tests.{le-leb, lt-leb, eq-eqb, ne_eqb, not-true, not-false}
-use Rattle.receiver.proofs.words.is_begun.Reads as reads
-use Rattle.receiver.proofs.words.is_begun.Lts as lts
+use borrow.Author.Tests.{le-leb, lt-leb}
 use Rattle.receiver.proofs.words.is_begun.Goals as goal
 
 pub returns-then-offset-gt2047 : goal.returns-then-offset-gt2047

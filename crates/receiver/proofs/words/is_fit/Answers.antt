@@ -1,15 +1,6 @@
 -- src/words.rt:334:19
-use borrow.Author.Tests.{le-leb, lt-leb, eq-eqb, ne_eqb, not-true, not-false}
 use mathlib.Core.Path.{sym, ◌∙◌}
 use Rattle.receiver.specs.Words.{fitb}
-use borrow.Author.Rules.{rules}
-use Rattle.receiver.proofs.words.is_fit.Reads as reads
-use Rattle.receiver.proofs.words.is_fit.Lts as lts
-use Rattle.receiver.proofs.words.is_opened.Reads as is-opened-reads
-use Rattle.receiver.proofs.words.is_phased.Reads as is-phased-reads
-use Rattle.receiver.proofs.words.is_roomy.Reads as is-roomy-reads
-use Rattle.receiver.proofs.words.is_staged.Reads as is-staged-reads
-use Rattle.receiver.proofs.words.left_in.Reads as left-in-reads
 use Rattle.receiver.proofs.words.is_fit.Goals as goal
 
 -- src/words.rt:335:9

@@ -1,8 +1,6 @@
 -- src/words.rt:232:9
-use borrow.Author.Tests.{le-leb, lt-leb, eq-eqb, ne_eqb, not-true, not-false}
+use borrow.Author.Tests.{le-leb, lt-leb}
 use Rattle.receiver.specs.Words.{openedb}
-use Rattle.receiver.proofs.words.is_opened.Reads as reads
-use Rattle.receiver.proofs.words.is_opened.Lts as lts
 use Rattle.receiver.proofs.words.is_opened.Goals as goal
 
 pub returns-then-size-lt16 : goal.returns-then-size-lt16

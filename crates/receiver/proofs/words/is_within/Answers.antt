@@ -1,7 +1,5 @@
 -- src/words.rt:270:9
 use Rattle.receiver.proofs.WordTests.{past, shift_le}
-use Rattle.receiver.proofs.words.is_within.Reads as reads
-use Rattle.receiver.proofs.words.is_within.Lts as lts
 use Rattle.receiver.proofs.words.is_within.Goals as goal
 
 pub returns-then-cap-len : goal.returns-then-cap-len

@@ -1,9 +1,5 @@
 -- src/words.rt:82:24
 use native.Mathlib.Omega.{arith}
-use borrow.Author.Rules.{rules}
-use Rattle.receiver.proofs.words.kept_words.Reads as reads
-use Rattle.receiver.proofs.words.kept_words.Lts as lts
-use Rattle.receiver.proofs.words.wide.Reads as wide-reads
 use Rattle.receiver.proofs.words.kept_words.Goals as goal
 
 -- src/words.rt:78:1

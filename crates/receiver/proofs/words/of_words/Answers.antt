@@ -1,10 +1,5 @@
 -- src/words.rt:350:8
 use Rattle.receiver.proofs.Worded.{accepted, refused}
-use borrow.Author.Rules.{rules}
-use Rattle.receiver.proofs.words.of_words.Reads as reads
-use Rattle.receiver.proofs.words.of_words.Lts as lts
-use Rattle.receiver.proofs.words.is_fit.Reads as is-fit-reads
-use Rattle.receiver.proofs.words.receiver_in.Reads as receiver-in-reads
 use Rattle.receiver.proofs.words.of_words.Goals as goal
 
 -- src/words.rt:351:9

@@ -1,10 +1,6 @@
 -- src/words.rt:172:28
-use borrow.Author.Tests.{le-leb, lt-leb, eq-eqb, ne_eqb, not-true, not-false}
+use borrow.Author.Tests.{eq-eqb, ne_eqb}
 use Rattle.receiver.specs.Words.{phase_in}
-use borrow.Author.Rules.{rules}
-use Rattle.receiver.proofs.words.phase_in.Reads as reads
-use Rattle.receiver.proofs.words.phase_in.Lts as lts
-use Rattle.receiver.proofs.words.header_in.Reads as header-in-reads
 use Rattle.receiver.proofs.words.phase_in.Goals as goal
 
 -- src/words.rt:163:1

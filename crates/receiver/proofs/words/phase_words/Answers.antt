@@ -1,10 +1,5 @@
 -- src/words.rt:71:24
 use native.Mathlib.Omega.{arith}
-use borrow.Author.Rules.{rules}
-use Rattle.receiver.proofs.words.phase_words.Reads as reads
-use Rattle.receiver.proofs.words.phase_words.Lts as lts
-use Rattle.receiver.proofs.words.head_words.Reads as head-words-reads
-use Rattle.receiver.proofs.words.header_words.Reads as header-words-reads
 use Rattle.receiver.proofs.words.phase_words.Goals as goal
 
 -- src/words.rt:67:1

@@ -1,8 +1,6 @@
 -- src/words.rt:141:1
-use borrow.Author.Tests.{le-leb, lt-leb, eq-eqb, ne_eqb, not-true, not-false}
+use borrow.Author.Tests.{eq-eqb, ne_eqb}
 use Rattle.receiver.specs.Words.{stage_in}
-use Rattle.receiver.proofs.words.stage_in.Reads as reads
-use Rattle.receiver.proofs.words.stage_in.Lts as lts
 use Rattle.receiver.proofs.words.stage_in.Goals as goal
 
 pub returns-in-0 : goal.returns-in-0

@@ -1,7 +1,4 @@
 -- src/words.rt:33:25
-use borrow.Author.Rules.{rules}
-use Rattle.receiver.proofs.words.stage_words.Reads as reads
-use Rattle.receiver.proofs.words.stage_words.Lts as lts
 use Rattle.receiver.proofs.words.stage_words.Goals as goal
 
 -- src/words.rt:29:1
