@@ -3,7 +3,6 @@
 use Rattle.receiver.proofs.Gather.{part_is}
 use Rattle.receiver.proofs.part.Goals as goal
 
--- src/lib.rt:132:1
 pub returns : goal.returns
 returns c =
     let a = c.args in

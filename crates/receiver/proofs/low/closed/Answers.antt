@@ -3,13 +3,11 @@
 use Rattle.receiver.proofs.Walking.{closed_in, closed_out}
 use Rattle.receiver.proofs.low.closed.Goals as goal
 
--- src/low.rt:53:9
 pub returns-then-tp-at : goal.returns-then-tp-at
 returns-then-tp-at c =
     let a = c.args in
     closed_out a.tp.now a.at a.header c.requires.0 c.if-tp-at.true
 
--- src/low.rt:47:1
 pub returns : goal.returns
 returns c =
     let a = c.args in

@@ -14,4 +14,4 @@ pub returns : goal.returns
 returns c =
     let f = c.fits in
     let e = c.busy.ensures in
-    kept_own c.busy.result _ _ _ _ c.in-Body.header _ c.in-Body.is (fits_of_lem f.result c.in-Body.header _ f.ensures (c.if-not-fits.false)) e.2 e.1 (omega (arith, c.struct_known-2-1.given)) e.0
+    kept_own c.busy.result _ _ _ _ c.in-Body.header _ c.in-Body.is (fits_of_lem f.result c.in-Body.header _ f.ensures (c.if-not-fits.false)) e.2 e.1 (omega arith) e.0

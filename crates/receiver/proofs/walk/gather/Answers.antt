@@ -26,7 +26,7 @@ pub overflow_add-w : goal.overflow_add-w
 overflow_add-w c =
     let l = c.loop-i in
     let a = c.args in
-    let y = c.shared_slice_known-in-loop-i-1.given (a.at + l.i) in
+    let y = c.type_inv.tp (a.at + l.i) in
     let h = small (a.have + l.i) l.w l.invariant.1 (omega arith) in
     omega (arith, c.wide.ensures)
 
@@ -40,7 +40,7 @@ pub loop-i-preserved : goal.loop-i-preserved
 loop-i-preserved c =
     let l = c.loop-i in
     let a = c.args in
-    let y = c.shared_slice_known-in-loop-i-1.given (a.at + l.i) in
+    let y = c.type_inv.tp (a.at + l.i) in
     let h = small (a.have + l.i) l.w l.invariant.1 (omega arith) in
     let e : a.have + (l.i + 1) ≡ suc (a.have + l.i) = omega arith in
     rw (c.wide.ensures, e) (omega arith, next_small (a.have + l.i) l.w _ l.invariant.1 (omega arith), gather_on a.tp.now a.at a.n l.w l.i _ (omega arith) (omega arith) l.invariant.2)

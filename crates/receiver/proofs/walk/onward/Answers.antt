@@ -28,7 +28,7 @@ loop-a-smaller c =
     let e = c.advance_in in
     let full : length d.new.room ≡ length a.room.now = search rules in
     let s = rw l.invariant.0 at (stride_on (length l.room) a.stamp l.w a.tp.now l.room d.new.room _ d.ensures _ c.in-More.is) in
-    (both_on a.stamp a.tp.now l.room d.new.room e.new.room l.w _ _ (length a.room.now) s full (λ i. omega (arith, c.shared_slice_known-1.given i)) e.ensures _ c.in-More-advance_in.is).less
+    (both_on a.stamp a.tp.now l.room d.new.room e.new.room l.w _ _ (length a.room.now) s full (λ i. omega (arith, c.type_inv.tp i)) e.ensures _ c.in-More-advance_in.is).less
 
 pub loop-a-preserved : goal.loop-a-preserved
 loop-a-preserved c =
@@ -38,7 +38,7 @@ loop-a-preserved c =
     let e = c.advance_in in
     let full : length d.new.room ≡ length a.room.now = search rules in
     let s = rw l.invariant.0 at (stride_on (length l.room) a.stamp l.w a.tp.now l.room d.new.room _ d.ensures _ c.in-More.is) in
-    let o = both_on a.stamp a.tp.now l.room d.new.room e.new.room l.w _ _ (length a.room.now) s full (λ i. omega (arith, c.shared_slice_known-1.given i)) e.ensures _ c.in-More-advance_in.is in
+    let o = both_on a.stamp a.tp.now l.room d.new.room e.new.room l.w _ _ (length a.room.now) s full (λ i. omega (arith, c.type_inv.tp i)) e.ensures _ c.in-More-advance_in.is in
     let n : length e.new.room ≡ length a.room.now = search rules in
     (n, o.sound, o.same ∙ l.invariant.2)
 
@@ -58,4 +58,4 @@ returns-in-Stop-advance_in c =
     let e = c.advance_in in
     let full : length d.new.room ≡ length a.room.now = search rules in
     let s = rw l.invariant.0 at (stride_on (length l.room) a.stamp l.w a.tp.now l.room d.new.room _ d.ensures _ c.in-More.is) in
-    both_ends a.stamp a.tp.now l.room d.new.room e.new.room l.w _ _ (length a.room.now) s full (λ i. omega (arith, c.shared_slice_known-1.given i)) e.ensures _ c.in-Stop-advance_in.is a.start a.room.now l.invariant.2
+    both_ends a.stamp a.tp.now l.room d.new.room e.new.room l.w _ _ (length a.room.now) s full (λ i. omega (arith, c.type_inv.tp i)) e.ensures _ c.in-Stop-advance_in.is a.start a.room.now l.invariant.2

@@ -1,4 +1,3 @@
--- src/words.rt:193:9
 use borrow.Author.Tests.{eq-eqb, ne_eqb}
 use Rattle.receiver.specs.Words.{kept_in}
 use Rattle.receiver.proofs.words.kept_in.Goals as goal
@@ -7,7 +6,6 @@ pub returns-then-sort-eq0 : goal.returns-then-sort-eq0
 unfolding kept_in
 returns-then-sort-eq0 c = simp (eq-eqb _ _ c.if-sort-eq0.true)
 
--- src/words.rt:189:1
 pub returns : goal.returns
 unfolding kept_in
 returns c = simp (ne_eqb _ _ c.if-sort-eq0.false, c.narrow.ensures)
