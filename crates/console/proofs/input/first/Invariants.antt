@@ -1,12 +1,8 @@
 -- `console::first` meets its contract: each turn reads on, and the stretch begins at the block's start. The measure is what is left of the block.
 -- Assumes nothing.
 use Prim.Native.Nat.{◌-◌, ◌≤◌}
-use mathlib.Core.Path.{◌≡◌, refl, subst, ◌∙◌}
-use native.Mathlib.Omega.{arith}
-use borrow.Author.Rules.{rules}
+use mathlib.Core.Path.{◌≡◌}
 use lib.ListN.{length}
-use Rattle.console.specs.Taking.{ReadOn}
-use Rattle.console.proofs.Laws.{stretch_from_start, as_told}
 use Rattle.console.proofs.input.first.Given as goal
 
 abbrev pub invariant-loop-unread : goal.invariant-loop-unread

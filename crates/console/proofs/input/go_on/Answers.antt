@@ -1,6 +1,5 @@
 -- `console::go_on` meets its contract: the stretch stays, or is read on.
 -- Assumes nothing.
-use borrow.Author.Rules.{rules}
 use Rattle.console.proofs.Laws.{stays, reads}
 use Rattle.console.proofs.input.go_on.Goals as goal
 

@@ -1,7 +1,6 @@
 -- `console::setup_in` meets its contract.
 -- Assumes nothing.
 use mathlib.Core.Path.{refl, sym, ◌∙◌}
-use borrow.Author.Rules.{rules}
 use Rattle.console.proofs.input.setup_in.Goals as goal
 
 pub returns-in-Within : goal.returns-in-Within

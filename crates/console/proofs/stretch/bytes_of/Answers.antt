@@ -1,7 +1,6 @@
 -- `console::bytes_of` meets its contract.
 -- Assumes nothing.
 use Rattle.console.proofs.Laws.{is_stretch}
-use borrow.Author.Rules.{rules}
 use Rattle.console.proofs.stretch.bytes_of.Goals as goal
 
 pub returns : goal.returns

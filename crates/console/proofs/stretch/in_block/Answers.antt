@@ -1,6 +1,5 @@
 -- `console::in_block` meets its contract.
 -- Assumes nothing.
-use borrow.Author.Rules.{rules}
 use Rattle.console.proofs.Laws.{as_within}
 use Rattle.console.proofs.stretch.in_block.Goals as goal
 

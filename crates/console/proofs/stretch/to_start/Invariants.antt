@@ -1,11 +1,9 @@
 -- `console::to_start` meets its contract: the first i bytes are moved. The measure is what is left of n.
 -- Assumes nothing.
 use Prim.Native.Nat.{◌+◌, ◌-◌, ◌≤◌}
-use mathlib.Core.Path.{◌≡◌, refl, ◌∙◌}
-use native.Mathlib.Omega.{arith}
-use borrow.Author.Rules.{rules}
-use lib.ListN.{length, length-set}
-use Rattle.console.proofs.Laws.{is_there, stretch_long, shifted, shifted_none, shift_on, all_moved}
+use mathlib.Core.Path.{◌≡◌}
+use lib.ListN.{length}
+use Rattle.console.proofs.Laws.{shifted}
 use Rattle.console.proofs.stretch.to_start.Given as goal
 
 abbrev pub invariant-loop-i : goal.invariant-loop-i
