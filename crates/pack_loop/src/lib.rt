@@ -54,7 +54,14 @@ fn turns(first: Run, till: usize, sp: &mut [u8], block: &[u8], out: &mut [u8]) -
 }
 
 // Takes block after block.
-fn blocks(rt: &HostRuntime, first: Run, input: Unread, sp: &mut [u8], block: &mut [u8], out: &mut [u8])
+fn blocks(
+    rt: &HostRuntime,
+    first: Run,
+    input: Unread,
+    sp: &mut [u8],
+    block: &mut [u8],
+    out: &mut [u8],
+)
     requires { Ready first input.till (length block.old) }
 {
     let mut run = first;
@@ -69,8 +76,15 @@ fn blocks(rt: &HostRuntime, first: Run, input: Unread, sp: &mut [u8], block: &mu
         }
         let from = run.from;
         let unread = Unread { gone, from, till };
-        let More::Read(next) = console::go_on(rt, b"c7pack", Place::Sending, block, unread, out, run.at)
-        else {
+        let More::Read(next) = console::go_on(
+            rt,
+            b"c7pack",
+            Place::Sending,
+            block,
+            unread,
+            out,
+            run.at,
+        ) else {
             return;
         };
         run = Run {

@@ -106,8 +106,15 @@ fn blocks(
         }
         let from = run.from;
         let unread = Unread { gone, from, till };
-        let More::Read(next) = console::go_on(rt, b"c7send", Place::Sending, block, unread, out, run.at)
-        else {
+        let More::Read(next) = console::go_on(
+            rt,
+            b"c7send",
+            Place::Sending,
+            block,
+            unread,
+            out,
+            run.at,
+        ) else {
             return;
         };
         let sender = run.sender;
