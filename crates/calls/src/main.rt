@@ -121,7 +121,14 @@ fn to_sender(
 }
 
 // The calls on the receiver; a bytes of the TP and c of the room are lent.
-fn to_receiver(rt: &HostRuntime, s: State, entry: Entry, received: &[u8], room: &mut [u8], out: &mut [u8]) -> State
+fn to_receiver(
+    rt: &HostRuntime,
+    s: State,
+    entry: Entry,
+    received: &[u8],
+    room: &mut [u8],
+    out: &mut [u8],
+) -> State
     requires { Fine s }
     ensures { Fine result }
 {

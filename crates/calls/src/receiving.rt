@@ -30,7 +30,14 @@ fn with_receiver(s: State, receiver: Receiver, at: usize) -> State
     }
 }
 
-fn put_opening(rt: &HostRuntime, out: &mut [u8], at: usize, number: u64, room: &[u8], limit: usize) -> usize {
+fn put_opening(
+    rt: &HostRuntime,
+    out: &mut [u8],
+    at: usize,
+    number: u64,
+    room: &[u8],
+    limit: usize,
+) -> usize {
     let mut next = block::put(out, freed(rt, out, at), b"receiver ");
     next = block::put_number(out, next, number);
     next = put_digest(out, next, room, limit);
@@ -96,7 +103,14 @@ fn put_step<'a>(
     next
 }
 
-pub fn next(rt: &HostRuntime, s: State, tp: &[u8], more: bool, room: &mut [u8], out: &mut [u8]) -> Asked
+pub fn next(
+    rt: &HostRuntime,
+    s: State,
+    tp: &[u8],
+    more: bool,
+    room: &mut [u8],
+    out: &mut [u8],
+) -> Asked
     requires { Fine s }
     ensures { Fine result.state }
 {
@@ -111,7 +125,14 @@ pub fn next(rt: &HostRuntime, s: State, tp: &[u8], more: bool, room: &mut [u8], 
     }
 }
 
-pub fn all(rt: &HostRuntime, first: State, tp: &[u8], more: bool, room: &mut [u8], out: &mut [u8]) -> State
+pub fn all(
+    rt: &HostRuntime,
+    first: State,
+    tp: &[u8],
+    more: bool,
+    room: &mut [u8],
+    out: &mut [u8],
+) -> State
     requires { Fine first }
     ensures { Fine result }
 {

@@ -129,7 +129,14 @@ pub fn offer_low(
     after(s, a, at)
 }
 
-pub fn draw(rt: &HostRuntime, s: State, low: &[u8], ordinary: &[u8], tp: &mut [u8], out: &mut [u8]) -> State
+pub fn draw(
+    rt: &HostRuntime,
+    s: State,
+    low: &[u8],
+    ordinary: &[u8],
+    tp: &mut [u8],
+    out: &mut [u8],
+) -> State
     requires { Fine s }
     ensures { Fine result }
 {

@@ -150,8 +150,15 @@ fn blocks(
         run = turns(book, run, till, block, room, out);
         let from = run.from;
         let unread = Unread { gone, from, till };
-        let More::Read(next) = console::go_on(rt, b"c7list", Place::Listing, block, unread, out, run.at)
-        else {
+        let More::Read(next) = console::go_on(
+            rt,
+            b"c7list",
+            Place::Listing,
+            block,
+            unread,
+            out,
+            run.at,
+        ) else {
             return;
         };
         let receiver = run.receiver;

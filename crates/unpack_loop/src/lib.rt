@@ -106,7 +106,14 @@ fn turns(first: Run, till: usize, block: &[u8], room: &mut [u8], out: &mut [u8])
 }
 
 // Takes block after block.
-fn blocks(rt: &HostRuntime, first: Run, input: Unread, block: &mut [u8], room: &mut [u8], out: &mut [u8])
+fn blocks(
+    rt: &HostRuntime,
+    first: Run,
+    input: Unread,
+    block: &mut [u8],
+    room: &mut [u8],
+    out: &mut [u8],
+)
     requires { Ready first input.till (length block.old) }
 {
     let mut run = first;
