@@ -152,7 +152,7 @@ fn to_receiver(
 }
 
 // A line with only its name.
-fn named(s: State, out: &mut [u8], line: &[u8]) -> State
+fn named(rt: &HostRuntime, s: State, out: &mut [u8], line: &[u8]) -> State
     requires { Fine s }
     ensures { Fine result }
 {
@@ -162,7 +162,7 @@ fn named(s: State, out: &mut [u8], line: &[u8]) -> State
         sender,
         receiver,
         limit: s.limit,
-        at: block::put(out, freed(out, s.at), line),
+        at: block::put(out, freed(rt, out, s.at), line),
     }
 }
 
@@ -208,13 +208,13 @@ fn call(
     match op {
         8 => {
             write_to(entry, sp, ordinary, low, room, drawn, received);
-            named(s, out, b"write\n")
+            named(rt, s, out, b"write\n")
         }
         9 => {
             queue::copy_at(received, 0, drawn);
-            named(s, out, b"hand\n")
+            named(rt, s, out, b"hand\n")
         }
-        10 => named(with_limit(s, entry.a), out, b"limit\n"),
+        10 => named(rt, with_limit(s, entry.a), out, b"limit\n"),
         _ => to_receiver(rt, s, entry, received, room, out),
     }
 }
@@ -318,7 +318,7 @@ fn main(rt: HostRuntime) {
         at: 0,
     };
     turns(
-        rt,
+        &rt,
         s,
         &mut ordinary,
         &mut low,

@@ -58,6 +58,7 @@ pub fn open(rt: &HostRuntime, s: State, tp: usize, stream: u8, room: &[u8], out:
 }
 
 fn put_next<'a>(
+    rt: &HostRuntime,
     out: &mut [u8],
     at: usize,
     find: Find,
@@ -86,6 +87,7 @@ fn put_about(rt: &HostRuntime, out: &mut [u8], at: usize, about: About) -> usize
 
 // The line of a find, and if more is to be told what it carries.
 fn put_step<'a>(
+    rt: &HostRuntime,
     out: &mut [u8],
     at: usize,
     step: Step,

@@ -1,0 +1,13 @@
+-- `calls::receiving::all` is safe and ends: it counts down. The invariant: the state is fine, and the buffers keep their lengths.
+-- Assumes nothing.
+use mathlib.Core.Path.{◌≡◌}
+use borrow.Author.Rules.{rules}
+use lib.ListN.{length}
+use Rattle.calls.specs.Running.{Fine}
+use Rattle.calls.proofs.receiving.all.Given as goal
+
+abbrev pub invariant-loop-left : goal.invariant-loop-left
+invariant-loop-left l = Fine l.s × ((length l.room ≡ length l.initial.room) × (length l.out ≡ length l.initial.out))
+
+abbrev pub decreases-loop-left : goal.decreases-loop-left
+decreases-loop-left l = l.left
