@@ -1,6 +1,6 @@
 -- The EP that bytes begin with, as the code reads it; one that is whole lies within the bytes.
 -- Assumes nothing.
-use mathlib.Core.Path.{◌≡◌, refl, sym, ap, ◌∙◌}
+use mathlib.Core.Path.{◌≡◌, refl, ap, ◌∙◌}
 use mathlib.Core.Bool.{Bool, cond, true, false}
 use mathlib.Core.Option.{Option, none, some}
 use mathlib.Core.List.{List, [], ◌∷◌}
@@ -13,7 +13,6 @@ use Rattle.digits.specs.Digits.{number}
 use Rattle.wire.specs.Reading.{header_in, header_of, read_of}
 use Rattle.wire.specs.declared.Header.{Header}
 use Rattle.wire.specs.declared.Read.TheVariants as R
-use Rattle.lengths.specs.declared.queued.Ep.{Ep}
 use Rattle.lengths.specs.declared.queued.Ep.TheVariants.{Nothing, Whole}
 use Rattle.lengths.specs.Queued.{whole_of, ep_in}
 

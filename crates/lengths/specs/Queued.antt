@@ -1,5 +1,5 @@
 -- The EP that queued bytes begin with, by its header (document 01, "Layouts"). Assumes nothing.
-use Rattle.std.specs.Prelude.{Bool, cond, List, ℕ, ◌-◌, eqb, leb, length, take}
+use Rattle.std.specs.Prelude.{cond, List, ℕ, ◌-◌, eqb, leb, length, take}
 use Rattle.std.proofs.Math.Option.{Option, none, some}
 use Rattle.wire.specs.declared.Header.{Header}
 use Rattle.wire.specs.Reading.{header_of}

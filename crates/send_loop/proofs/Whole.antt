@@ -1,6 +1,6 @@
 -- WHAT IS HELD IS THE RECORDING of the records taken, from block to block. Assumes nothing.
 use Prim.Native.Nat.{ℕ}
-use mathlib.Core.Path.{◌≡◌, ap, sym, subst, ◌∙◌}
+use mathlib.Core.Path.{ap, sym, subst, ◌∙◌}
 use mathlib.Core.List.{List, ◌++◌, append_assoc}
 use Rattle.house.specs.Records.{record_bytes}
 use Rattle.house.specs.Series.{unread_in, Taken}

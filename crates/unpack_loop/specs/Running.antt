@@ -1,6 +1,6 @@
 -- What holds from find to find, from record to record and from block to block: the receiver can be called again, and what is
 -- taken lies within the input block. Assumes nothing.
-use Rattle.std.specs.Prelude.{ℕ, ◌+◌, ◌≤◌, ◌<◌, ◌⊎◌, ◌≡◌}
+use Rattle.std.specs.Prelude.{ℕ, ◌+◌, ◌≤◌, ◌<◌, ◌≡◌}
 use Rattle.receiver.specs.State.{Able}
 use Rattle.unpack_loop.specs.declared.Run.{Run}
 

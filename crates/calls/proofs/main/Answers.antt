@@ -4,8 +4,6 @@ use Rattle.calls.proofs.Zeros.{counted}
 use mathlib.Core.Path.{subst}
 use Rattle.sender.specs.Opening.{SoundAnswer}
 use Rattle.receiver.specs.Call.{AbleIf}
-use borrow.Author.Rules.{rules}
-use Rattle.sender.proofs.open.Reads as open-reads'
 use Rattle.calls.proofs.main.Goals as goal
 
 pub slice_bounds-turns-end : goal.slice_bounds-turns-end

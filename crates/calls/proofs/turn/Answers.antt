@@ -1,7 +1,6 @@
 -- `calls::turn` is safe and keeps the state fine, as `call` does.
 -- Assumes nothing.
 use native.Mathlib.Omega.{arith}
-use borrow.Author.Rules.{rules}
 use Rattle.calls.proofs.turn.Goals as goal
 
 pub call-requires : goal.call-requires

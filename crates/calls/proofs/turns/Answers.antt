@@ -1,10 +1,8 @@
 -- `calls::turns` is safe and ends: it counts down. The invariant: the state is fine, and the buffers keep their lengths.
 -- Assumes nothing.
-use mathlib.Core.Path.{◌≡◌, subst}
+use mathlib.Core.Path.{subst}
 use native.Mathlib.Omega.{arith}
-use borrow.Author.Rules.{rules}
-use lib.ListN.{length}
-use Rattle.calls.specs.Running.{Fine, Goes}
+use Rattle.calls.specs.Running.{Goes}
 use Rattle.calls.proofs.turns.Goals as goal
 
 pub shape_of-ordinary-in-Stop : goal.shape_of-ordinary-in-Stop

@@ -1,7 +1,6 @@
 -- `files::chosen` meets its contract.
 -- Assumes nothing.
 use mathlib.Core.Path.{sym, ◌∙◌}
-use borrow.Author.Rules.{rules}
 use Rattle.files.proofs.chosen.Goals as goal
 
 pub returns-in-Within : goal.returns-in-Within

@@ -1,7 +1,6 @@
 -- `files::joined` meets its contract.
 -- Assumes nothing.
 use Rattle.files.proofs.Laws.{below_digits, above_digits, too_large, digit_joined}
-use borrow.Author.Rules.{rules}
 use Rattle.files.proofs.joined.Goals as goal
 
 pub returns-then-b-lt48 : goal.returns-then-b-lt48

@@ -1,9 +1,6 @@
 -- `files::number_in` meets its contract: digits are read from the first one on, up to one that does not fit.
 -- Assumes nothing.
-use Prim.Native.Nat.{◌-◌}
-use lib.ListN.{length}
-use Rattle.files.proofs.Laws.{Read, read_none, no_word, read_one, read_not, read_all}
-use borrow.Author.Rules.{rules}
+use Rattle.files.proofs.Laws.{read_none, no_word, read_one, read_not, read_all}
 use Rattle.files.proofs.number_in.Goals as goal
 
 pub returns-then-word-eq0 : goal.returns-then-word-eq0

@@ -2,8 +2,7 @@
 -- Assumes nothing.
 use Prim.Native.Nat.{◌-◌}
 use lib.ListN.{length}
-use Rattle.files.proofs.Laws.{Read, read_none, no_word, read_one, read_not, read_all}
-use borrow.Author.Rules.{rules}
+use Rattle.files.proofs.Laws.{Read}
 use Rattle.files.proofs.number_in.Given as goal
 
 abbrev pub invariant-loop-i : goal.invariant-loop-i

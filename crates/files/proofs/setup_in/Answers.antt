@@ -2,7 +2,6 @@
 -- Assumes nothing.
 use mathlib.Core.Path.{sym, ◌∙◌}
 use Rattle.files.proofs.Laws.{begins_with}
-use borrow.Author.Rules.{rules}
 use Rattle.files.proofs.setup_in.Goals as goal
 
 pub returns-in-Whole : goal.returns-in-Whole

@@ -1,6 +1,5 @@
 -- `lengths::main` is safe: the packet has its bytes. Assumes nothing.
 use Rattle.lengths.proofs.Counted.{counted}
-use borrow.Author.Rules.{rules}
 use Rattle.lengths.proofs.main.Goals as goal
 
 pub slice_bounds-ordinary_of-end : goal.slice_bounds-ordinary_of-end

@@ -1,7 +1,6 @@
 -- `lengths::offer_ordinary` is safe: the sender came from its opening. Assumes nothing.
 use mathlib.Core.Path.{subst}
 use Rattle.sender.specs.Opening.{SoundAnswer}
-use borrow.Author.Rules.{rules}
 use Rattle.lengths.proofs.Counted.{counted}
 use Rattle.lengths.proofs.offer_ordinary.Goals as goal
 

@@ -1,5 +1,5 @@
 -- `longest::main` is safe and ends: it counts down. Assumes nothing.
-use Rattle.std.proofs.Common.{◌≡◌, length, rules}
+use Rattle.std.proofs.Common.{rules}
 use Rattle.longest.proofs.Zeros.{counted}
 use Rattle.longest.proofs.main.Goals as goal
 

@@ -1,6 +1,5 @@
 -- `longest::main` is safe and ends: it counts down. Assumes nothing.
-use Rattle.std.proofs.Common.{◌≡◌, length, rules}
-use Rattle.longest.proofs.Zeros.{counted}
+use Rattle.std.proofs.Common.{◌≡◌, length}
 use Rattle.longest.proofs.main.Given as goal
 
 abbrev pub invariant-loop-left : goal.invariant-loop-left

@@ -2,7 +2,6 @@
 -- Assumes nothing.
 use native.Mathlib.Omega.{arith}
 use Rattle.console.proofs.Onward.{begins}
-use borrow.Author.Rules.{rules}
 use Rattle.pack_loop.proofs.from_input.Goals as goal
 
 pub pack-requires : goal.pack-requires

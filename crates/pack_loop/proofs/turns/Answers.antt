@@ -1,12 +1,8 @@
 -- `pack_loop::turns` is safe and ends: each record moves on in the input block.
 -- Assumes nothing.
-use Prim.Native.Nat.{◌-◌}
-use mathlib.Core.Path.{◌≡◌, refl, sym, ◌∙◌}
+use mathlib.Core.Path.{refl, sym, ◌∙◌}
 use native.Mathlib.Omega.{arith}
-use lib.ListN.{length}
-use Rattle.pack_loop.specs.Running.{Ahead}
 use Rattle.console.proofs.Onward.{data_within}
-use borrow.Author.Rules.{rules}
 use Rattle.pack_loop.proofs.turns.Goals as goal
 
 pub loop-run-init : goal.loop-run-init

@@ -1,11 +1,8 @@
 -- `send_loop::blocks` is safe and ends: it counts down.
 -- Assumes nothing.
-use mathlib.Core.Path.{◌≡◌, refl, ◌∙◌}
+use mathlib.Core.Path.{refl, ◌∙◌}
 use native.Mathlib.Omega.{arith}
-use lib.ListN.{length}
-use Rattle.send_loop.specs.Running.{Ready}
 use Rattle.console.proofs.Onward.{goes_on}
-use borrow.Author.Rules.{rules}
 use Rattle.send_loop.proofs.blocks.Goals as goal
 
 pub loop-left-init : goal.loop-left-init

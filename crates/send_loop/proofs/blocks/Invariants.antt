@@ -1,11 +1,8 @@
 -- `send_loop::blocks` is safe and ends: it counts down.
 -- Assumes nothing.
-use mathlib.Core.Path.{◌≡◌, refl, ◌∙◌}
-use native.Mathlib.Omega.{arith}
+use mathlib.Core.Path.{◌≡◌}
 use lib.ListN.{length}
 use Rattle.send_loop.specs.Running.{Ready}
-use Rattle.console.proofs.Onward.{goes_on}
-use borrow.Author.Rules.{rules}
 use Rattle.send_loop.proofs.blocks.Given as goal
 
 abbrev pub invariant-loop-left : goal.invariant-loop-left

@@ -5,7 +5,6 @@ use native.Mathlib.Omega.{arith}
 use Rattle.sender.specs.Answers.{given_by}
 use Rattle.sender.specs.Opening.{SoundAnswer}
 use Rattle.sender.proofs.Opens.{opened_is}
-use borrow.Author.Rules.{rules}
 use Rattle.send_loop.proofs.send.Goals as goal
 
 pub blocks-requires : goal.blocks-requires

@@ -1,13 +1,9 @@
 -- `send_loop::turns` holds what the records taken write, and ends: each record moves on in the input block.
 -- Assumes nothing.
-use Prim.Native.Nat.{◌+◌, ◌-◌, ◌≤◌}
-use mathlib.Core.Path.{◌≡◌, refl, sym, ◌∙◌}
+use mathlib.Core.Path.{refl, sym, ◌∙◌}
 use native.Mathlib.Omega.{arith}
-use lib.ListN.{length}
-use Rattle.send_loop.specs.Running.{Ahead, Sent}
 use Rattle.console.proofs.Onward.{data_within}
 use Rattle.send_loop.proofs.Held.{sent_none, sent_then}
-use borrow.Author.Rules.{rules}
 use Rattle.send_loop.proofs.turns.Goals as goal
 
 pub loop-run-init : goal.loop-run-init

@@ -1,10 +1,7 @@
 -- `unpack_loop::finds` is safe and ends: it counts down.
 -- Assumes nothing.
-use mathlib.Core.Path.{◌≡◌, refl, ◌∙◌}
+use mathlib.Core.Path.{refl, ◌∙◌}
 use native.Mathlib.Omega.{arith}
-use lib.ListN.{length}
-use Rattle.receiver.specs.State.{Able}
-use borrow.Author.Rules.{rules}
 use Rattle.unpack_loop.proofs.finds.Goals as goal
 
 pub loop-left-init : goal.loop-left-init

@@ -1,10 +1,8 @@
 -- `unpack_loop::finds` is safe and ends: it counts down.
 -- Assumes nothing.
-use mathlib.Core.Path.{◌≡◌, refl, ◌∙◌}
-use native.Mathlib.Omega.{arith}
+use mathlib.Core.Path.{◌≡◌}
 use lib.ListN.{length}
 use Rattle.receiver.specs.State.{Able}
-use borrow.Author.Rules.{rules}
 use Rattle.unpack_loop.proofs.finds.Given as goal
 
 abbrev pub invariant-loop-left : goal.invariant-loop-left

@@ -2,7 +2,6 @@
 -- Assumes nothing.
 use native.Mathlib.Omega.{arith}
 use Rattle.console.proofs.Onward.{begins}
-use borrow.Author.Rules.{rules}
 use Rattle.unpack_loop.proofs.from_input.Goals as goal
 
 pub unpack-requires : goal.unpack-requires

@@ -1,12 +1,9 @@
 -- `unpack_loop::turns` is safe and ends: each record moves on in the input block, or its refusal is told first.
 -- Assumes nothing.
 use Prim.Native.Nat.{◌-◌}
-use mathlib.Core.Path.{◌≡◌, refl, sym, ◌∙◌}
-use native.Mathlib.Omega.{arith}
+use mathlib.Core.Path.{◌≡◌}
 use lib.ListN.{length}
 use Rattle.unpack_loop.specs.Running.{Ahead}
-use Rattle.console.proofs.Onward.{data_within}
-use borrow.Author.Rules.{rules}
 use Rattle.unpack_loop.proofs.turns.Given as goal
 
 abbrev pub invariant-loop-run : goal.invariant-loop-run

@@ -2,7 +2,6 @@
 -- Assumes nothing.
 use mathlib.Core.Path.{subst}
 use Rattle.receiver.specs.Call.{AbleIf}
-use borrow.Author.Rules.{rules}
 use Rattle.unpack_loop.proofs.unpack.Goals as goal
 
 pub blocks-requires : goal.blocks-requires

@@ -1,4 +1,4 @@
-use Rattle.std.proofs.Common.{◌-◌, ◌≤◌, rules}
+use Rattle.std.proofs.Common.{◌≤◌}
 use Rattle.vectors.proofs.random.Given as goal
 
 abbrev pub invariant-loop-left : goal.invariant-loop-left

@@ -1,7 +1,6 @@
 -- `words::main` is safe and ends: it counts down. Assumes nothing.
 use mathlib.Core.Path.{◌≡◌}
 use lib.ListN.{length}
-use borrow.Author.Rules.{rules}
 use Rattle.words.proofs.main.Given as goal
 
 abbrev pub invariant-loop-left : goal.invariant-loop-left

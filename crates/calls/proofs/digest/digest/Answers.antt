@@ -1,12 +1,11 @@
 -- `calls::digest::digest` meets its contract. The invariant: what is left to digest, from here, gives the digest of all.
 -- Assumes nothing.
-use Prim.Native.Nat.{suc, ◌+◌, ◌-◌, ◌*◌, ◌%◌, ◌≤◌, ◌<◌}
-use mathlib.Core.Path.{◌≡◌, refl, ap, sym, ◌∙◌}
+use Prim.Native.Nat.{suc, ◌+◌, ◌*◌, ◌%◌}
+use mathlib.Core.Path.{refl, ap, sym, ◌∙◌}
 use native.Mathlib.Numerals.{add-one}
 use native.Mathlib.Nat.{mod-lt}
 use native.Mathlib.Omega.{arith}
-use borrow.Author.Rules.{rules}
-use lib.ListN.{length, drop, drop_of_length-le}
+use lib.ListN.{drop, drop_of_length-le}
 use lib.Seq.{drop-cons}
 use Rattle.calls.specs.Digest.{digest}
 use Rattle.calls.proofs.digest.digest.Goals as goal

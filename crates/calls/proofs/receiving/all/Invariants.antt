@@ -1,7 +1,6 @@
 -- `calls::receiving::all` is safe and ends: it counts down. The invariant: the state is fine, and the buffers keep their lengths.
 -- Assumes nothing.
 use mathlib.Core.Path.{◌≡◌}
-use borrow.Author.Rules.{rules}
 use lib.ListN.{length}
 use Rattle.calls.specs.Running.{Fine}
 use Rattle.calls.proofs.receiving.all.Given as goal

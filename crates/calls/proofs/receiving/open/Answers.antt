@@ -2,7 +2,6 @@
 -- Assumes nothing.
 use mathlib.Core.Path.{subst}
 use Rattle.receiver.specs.Call.{AbleIf}
-use borrow.Author.Rules.{rules}
 use Rattle.calls.proofs.receiving.open.Goals as goal
 
 pub with_receiver-requires-2 : goal.with_receiver-requires-2

@@ -2,7 +2,6 @@
 -- Assumes nothing.
 use mathlib.Core.Path.{subst}
 use Rattle.sender.specs.Opening.{SoundAnswer}
-use borrow.Author.Rules.{rules}
 use Rattle.calls.proofs.sending.after.Goals as goal
 
 pub with_sender-requires : goal.with_sender-requires

@@ -1,7 +1,6 @@
 -- `queued::ep_in` meets its contract: too short, beyond repair, or a header. Assumes nothing.
 use mathlib.Core.Path.{sym, ◌∙◌}
 use Rattle.lengths.proofs.Eps.{ep_short, ep_beyond, ep_whole}
-use borrow.Author.Rules.{rules}
 use Rattle.lengths.proofs.queued.ep_in.Goals as goal
 
 pub returns-then-bytes-lt6 : goal.returns-then-bytes-lt6

@@ -1,9 +1,7 @@
 -- `queued::print_eps` is safe and ends: each EP lies within the queue. Assumes nothing.
-use Prim.Native.Nat.{◌-◌, ◌≤◌}
 use mathlib.Core.Path.{sym, ◌∙◌}
 use native.Mathlib.Omega.{arith}
-use lib.ListN.{length, drop, length-drop}
-use borrow.Author.Rules.{rules}
+use lib.ListN.{length-drop}
 use Rattle.lengths.proofs.Eps.{within}
 use Rattle.lengths.proofs.queued.print_eps.Goals as goal
 

@@ -1,10 +1,6 @@
 -- `queued::print_eps` is safe and ends: each EP lies within the queue. Assumes nothing.
 use Prim.Native.Nat.{◌-◌, ◌≤◌}
-use mathlib.Core.Path.{sym, ◌∙◌}
-use native.Mathlib.Omega.{arith}
-use lib.ListN.{length, drop, length-drop}
-use borrow.Author.Rules.{rules}
-use Rattle.lengths.proofs.Eps.{within}
+use lib.ListN.{length}
 use Rattle.lengths.proofs.queued.print_eps.Given as goal
 
 abbrev pub invariant-loop-at : goal.invariant-loop-at

@@ -1,6 +1,6 @@
 -- `longest::receiving::block` is safe and ends: each TP begins further on. Assumes nothing.
 use Rattle.receiver.specs.State.{Able}
-use Rattle.std.proofs.Common.{◌≡◌, ◌-◌, ◌≤◌, length, rules}
+use Rattle.std.proofs.Common.{◌≡◌, ◌-◌, ◌≤◌, length}
 use Rattle.longest.proofs.receiving.block.Given as goal
 
 abbrev pub invariant-loop-i : goal.invariant-loop-i

@@ -1,6 +1,6 @@
 -- `longest::receiving::blocks` is safe and ends: it counts down. Assumes nothing.
 use Rattle.receiver.specs.State.{Able}
-use Rattle.std.proofs.Common.{◌≡◌, length, rules}
+use Rattle.std.proofs.Common.{◌≡◌, length}
 use Rattle.longest.proofs.receiving.blocks.Given as goal
 
 abbrev pub invariant-loop-left : goal.invariant-loop-left

@@ -1,5 +1,5 @@
 -- `longest::receiving::input` is safe: the receiver came from its opening. Assumes nothing.
-use Rattle.std.proofs.Common.{subst, rules}
+use Rattle.std.proofs.Common.{subst}
 use Rattle.receiver.specs.Call.{AbleIf}
 use Rattle.longest.proofs.receiving.input.Goals as goal
 

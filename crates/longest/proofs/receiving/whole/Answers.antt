@@ -1,5 +1,4 @@
 -- `longest::receiving::whole` is safe, and the receiver can be called again. Assumes nothing.
-use Rattle.std.proofs.Common.{rules}
 use Rattle.receiver.proofs.PassingOver.{data_able, data_asked}
 use Rattle.longest.proofs.receiving.whole.Goals as goal
 

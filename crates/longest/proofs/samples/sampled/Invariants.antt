@@ -1,5 +1,5 @@
 -- `longest::samples::sampled` is safe and ends: so many bytes are left. Assumes nothing.
-use Rattle.std.proofs.Common.{◌≤◌, length, rules}
+use Rattle.std.proofs.Common.{◌≤◌, length}
 use Rattle.longest.proofs.samples.sampled.Given as goal
 
 abbrev pub invariant-loop-left : goal.invariant-loop-left

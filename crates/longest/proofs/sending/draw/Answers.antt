@@ -1,5 +1,5 @@
 -- `longest::sending::draw` is safe, and its sender came from its calls. Assumes nothing.
-use Rattle.std.proofs.Common.{subst, rules}
+use Rattle.std.proofs.Common.{subst}
 use Rattle.sender.specs.Opening.{SoundAnswer}
 use Rattle.longest.proofs.sending.draw.Goals as goal
 

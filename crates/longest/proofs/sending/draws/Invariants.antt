@@ -1,6 +1,6 @@
 -- `longest::sending::draws` is safe and ends: it counts up. Assumes nothing.
 use Rattle.sender.specs.Opening.{Sound}
-use Rattle.std.proofs.Common.{◌≡◌, ◌-◌, length, rules}
+use Rattle.std.proofs.Common.{◌≡◌, ◌-◌, length}
 use Rattle.longest.proofs.sending.draws.Given as goal
 
 abbrev pub invariant-loop : goal.invariant-loop

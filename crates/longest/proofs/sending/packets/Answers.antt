@@ -1,5 +1,5 @@
 -- `longest::sending::packets` is safe: the sender came from its opening. Assumes nothing.
-use Rattle.std.proofs.Common.{subst, rules}
+use Rattle.std.proofs.Common.{subst}
 use Rattle.sender.specs.Opening.{SoundAnswer}
 use Rattle.longest.proofs.sending.packets.Goals as goal
 

@@ -1,6 +1,6 @@
 -- `longest::sending::sent` is safe and ends: it counts down. Assumes nothing.
 use Rattle.sender.specs.Opening.{Sound}
-use Rattle.std.proofs.Common.{◌≡◌, length, rules}
+use Rattle.std.proofs.Common.{◌≡◌, length}
 use Rattle.longest.proofs.sending.sent.Given as goal
 
 abbrev pub invariant-loop-left : goal.invariant-loop-left

@@ -1,7 +1,6 @@
 -- `answers::ended` is safe and ends. Assumes nothing.
 use Prim.Native.Nat.{◌-◌, ◌<◌, ◌≤◌}
 use lib.ListN.{length}
-use borrow.Author.Rules.{rules}
 use Rattle.words.proofs.answers.ended.Given as goal
 
 abbrev pub invariant-loop-i : goal.invariant-loop-i
