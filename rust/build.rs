@@ -1,4 +1,4 @@
-// Says where libjenugathi.a is: in $JENUGATHI_LIB, beside this crate in a release, or where rt makes it.
+// Says where libjenugathi.a is: in $JENUGATHI_LIB, beside this crate in a release, or where tools/library puts it.
 use std::env;
 use std::path::PathBuf;
 

@@ -20,7 +20,7 @@ class Picture(trial.Case):
 
     def test_every_crate_is_drawn_once(self):
         self.works(self.draw(self.crates))
-        names = re.findall(r"^(\w+):", self.crates, re.MULTILINE)
+        names = re.findall(r"^(\w+)(?: staticlib)?:", self.crates, re.MULTILINE)
         for name in names:
             self.assertEqual(self.drawn().count(">%s</text>" % name), 1, name)
         self.assertEqual(self.drawn().count("<rect x="), len(names) + 3)  # and the three that explain the colours
@@ -39,7 +39,7 @@ class Picture(trial.Case):
         """What stands on another is drawn above it."""
         self.works(self.draw(self.crates))
         height = {name: int(y) for y, name in re.findall(r'y="(\d+)" font-size="14" [^>]*>(\w+)</text>', self.drawn())}
-        for name, direct in re.findall(r"^(\w+):(.*)", self.crates, re.MULTILINE):
+        for name, direct in re.findall(r"^(\w+)(?: staticlib)?:(.*)", self.crates, re.MULTILINE):
             for one in direct.split():
                 self.assertTrue(one not in height or height[name] < height[one], (name, one))
 

@@ -65,7 +65,7 @@ class Release(trial.Case):
         os.remove(os.path.join(self.room, "target", "bin", "c7at"))
         self.fails(self.release(self.archive), 1, "No such file or directory; 'rt check c7at' makes it")
         os.remove(os.path.join(self.room, "target", "staticlib", "libjenugathi.a"))
-        self.fails(self.release(self.archive), 1, "'rt staticlib jenugathi' makes it")
+        self.fails(self.release(self.archive), 1, "'tools/library' makes it")
         self.assertFalse(os.path.exists(self.archive))
 
     def test_asked_wrongly(self):

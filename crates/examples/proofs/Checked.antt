@@ -1,6 +1,6 @@
 -- The list of examples holds, by computing each.
 -- Assumes nothing.
-use mathlib.Core.Path.{◌≡◌, refl}
+use mathlib.Core.Path.{refl}
 use mathlib.Core.List.{flatten}
 use lib.Count.{ones_in}
 use lib.Dec.{lit<, lit≤}

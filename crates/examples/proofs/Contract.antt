@@ -22,7 +22,7 @@ use Rattle.receiver.specs.Forecast.{outset}
 use Rattle.receiver.specs.Kind.{kind_of, piece_of}
 use Rattle.receiver.specs.Low.{llep, sized}
 use Rattle.receiver.specs.Lows.{lows, lows_of}
-use Rattle.receiver.specs.State.{Able, pull_of}
+use Rattle.receiver.specs.State.{Able}
 use Rattle.receiver.proofs.Pinned.{pinned}
 use Rattle.examples.specs.Examples.{first_tp, second_tp}
 use Rattle.examples.proofs.Sixth.{cut_header, first_word, low_header, second_word}

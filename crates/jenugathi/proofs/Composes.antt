@@ -5,7 +5,7 @@ use mathlib.Core.Path.{◌≡◌, sym, ap, ◌∙◌}
 use Rattle.chapter11.specs.declared.Answer.{Answer}
 use Rattle.chapter11.specs.declared.Answer.TheVariants.{Done, Refused}
 use Rattle.chapter11.specs.Source.{Left}
-use Rattle.jenugathi.specs.Composing.{Counted, counted, Made, made}
+use Rattle.jenugathi.specs.Composing.{Counted, counted, made}
 
 pub counts : (w : ℕ) (a : Answer) (n : ℕ) → a ≡ Done n → record { number = 0; written = n } ≡ counted w a
 counts w a n e = ap (counted w) (sym e)

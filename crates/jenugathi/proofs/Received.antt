@@ -2,12 +2,9 @@
 -- WHAT A CALL LEAVES IS ACCEPTED by the next: the words behind an opening, a call or a gap are those of the receiver that stands behind
 -- it, but for the place that nothing looks at. Assumes nothing.
 use Prim.Native.Nat.{ℕ, ◌≤◌}
-use mathlib.Core.Bool.{Bool, true, false, cond}
 use mathlib.Core.List.{List}
-use mathlib.Core.Path.{◌≡◌, refl, sym, subst, ap, ◌∙◌}
+use mathlib.Core.Path.{◌≡◌, sym, ap, ◌∙◌}
 use native.Mathlib.Omega.{arith}
-use lib.Dec.{ltb}
-use borrow.Author.Tests.{ltb-false}
 use Rattle.receiver.specs.declared.About.{About}
 use Rattle.receiver.specs.declared.Find.{Find}
 use Rattle.receiver.specs.declared.Opened.{Opened}
@@ -15,10 +12,10 @@ use Rattle.receiver.specs.declared.Opened.TheVariants as O
 use Rattle.receiver.specs.declared.Receiver.{Receiver}
 use Rattle.receiver.specs.declared.Step.{Step}
 use Rattle.receiver.specs.Call.{call_of, find_number, fresh_of, gap_of}
-use Rattle.receiver.specs.Words.{Fit, Opens, of_words, words_of}
+use Rattle.receiver.specs.Words.{Fit, of_words, words_of}
 use Rattle.receiver.proofs.Pinned.{pinned, plainly, shown_of}
 use Rattle.receiver.proofs.Worded.{back, same_words}
-use Rattle.jenugathi.specs.Receiving.{NextAs, Tells, Stays, find_words, or_zero}
+use Rattle.jenugathi.specs.Receiving.{NextAs, Tells, find_words, or_zero}
 
 pub next_pinned : (o : Opened) (w₀ tp m₀ : List ℕ) (n n' : ℕ) (w w' f f' m m' : List ℕ) → NextAs o w₀ tp m₀ n w f m → NextAs o w₀ tp m₀ n' w' f' m'
     → (n ≡ n') × (w ≡ w') × (f ≡ f') × (m ≡ m')

@@ -13,7 +13,7 @@ use Rattle.sender.specs.Answers.{number, Given, done, given_by, Left}
 use Rattle.sender.specs.Opening.{Sound, SoundAnswer}
 use Rattle.sender.specs.Words.{words_of, sender_in, sound, of_words, OfItsWords}
 use Rattle.sender.proofs.Worded.{if_sound}
-use Rattle.jenugathi.specs.Sending.{Told, told, Sent, sent, called, in_words, Lasting}
+use Rattle.jenugathi.specs.Sending.{Told, told, sent, called, in_words, Lasting}
 
 -- a refusal's number leaves the words; a sender's words are told with 0
 pub tells_refusal : (w : List ℕ) (a : Answer) (k : Refusal) (n : ℕ) → a ≡ Refused k → n ≡ number k → record { number = n; state = w } ≡ told w (given_by a)
