@@ -72,8 +72,7 @@ returns-in-Packet c =
 pub returns : goal.returns
 returns c =
     let a = c.args in
-    let g = c.gap.ensures in
-    let k = c.in_default.in_default-own.keys2 in record {
+    let g = c.gap.ensures in record {
       onward = record {
         able = g.1;
         placed = subst⁻¹ Placed g.0 (placed_gap a.run.receiver);
@@ -84,7 +83,7 @@ returns c =
         count = omega arith;
         progress = omega arith;
       };
-      does = does_told a.said a.«data».now a.run a.room.now a.out.now _ a.room.now a.out.now (λ n e. let j = rw e at k in
-          ⊎_elim (λ z. omega (arith, z)) (⊎_elim (λ z. omega (arith, z)) (⊎_elim (λ z. omega (arith, z)) (⊎_elim (λ z. omega (arith, z)) (λ z. omega (arith, z))))) j)
+      does =
+          does_told a.said a.«data».now a.run a.room.now a.out.now _ a.room.now a.out.now c.in_default.not-Packet
           (record { receiver = g.0; room = refl; out = refl; at = refl; from = refl; done = refl });
     }

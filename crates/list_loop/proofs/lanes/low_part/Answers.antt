@@ -16,28 +16,28 @@ pub llep_at-l-requires : goal.llep_at-l-requires
 llep_at-l-requires c = record { book = c.requires.5; at_in_bounds = c.loop-within.invariant.0.inside }
 
 pub overflow_cast-l : goal.overflow_cast-l
-overflow_cast-l c = omega (arith, (brief_few c.llep_at-l.result c.args.tp.now c.loop-within.place (c.if-not-l.false) c.llep_at-l.ensures).1)
+overflow_cast-l c = omega (arith, (brief_few c.llep_at-l.result c.args.tp.now c.loop-within.place (not-false _ c.if-not-l.false) c.llep_at-l.ensures).1)
 
 pub overflow_add-place : goal.overflow_add-place
-overflow_add-place c = omega (arith, (brief_few c.llep_at-l.result c.args.tp.now c.loop-within.place (c.if-not-l.false) c.llep_at-l.ensures).0, c.requires.4)
+overflow_add-place c = omega (arith, (brief_few c.llep_at-l.result c.args.tp.now c.loop-within.place (not-false _ c.if-not-l.false) c.llep_at-l.ensures).0, c.requires.4)
 
 pub low_line-put-requires : goal.low_line-put-requires
 low_line-put-requires c = c.loop-within.invariant.0.ten
 
 pub overflow_add-place-in-loop-within : goal.overflow_add-place-in-loop-within
-overflow_add-place-in-loop-within c = omega (arith, (brief_few c.llep_at-l.result c.args.tp.now c.loop-within.place (c.if-not-l.false) c.llep_at-l.ensures).0, c.requires.4)
+overflow_add-place-in-loop-within c = omega (arith, (brief_few c.llep_at-l.result c.args.tp.now c.loop-within.place (not-false _ c.if-not-l.false) c.llep_at-l.ensures).0, c.requires.4)
 
 pub overflow_add-place-in-loop-within-2 : goal.overflow_add-place-in-loop-within-2
-overflow_add-place-in-loop-within-2 c = omega (arith, (brief_few c.llep_at-l.result c.args.tp.now c.loop-within.place (c.if-not-l.false) c.llep_at-l.ensures).0, c.requires.4)
+overflow_add-place-in-loop-within-2 c = omega (arith, (brief_few c.llep_at-l.result c.args.tp.now c.loop-within.place (not-false _ c.if-not-l.false) c.llep_at-l.ensures).0, c.requires.4)
 
 pub loop-within-smaller : goal.loop-within-smaller
-loop-within-smaller c = omega (arith, (brief_few c.llep_at-l.result c.args.tp.now c.loop-within.place (c.if-not-l.false) c.llep_at-l.ensures).0)
+loop-within-smaller c = omega (arith, (brief_few c.llep_at-l.result c.args.tp.now c.loop-within.place (not-false _ c.if-not-l.false) c.llep_at-l.ensures).0)
 
 pub loop-within-preserved : goal.loop-within-preserved
 loop-within-preserved c =
     let i = c.loop-within.invariant in
     let w = c.low_line-put.ensures in
-    (parts_then _ _ _ _ _ _ _ _ _ i.0 c.llep_at-l.result _ _ _ c.loop-within-test.true (c.if-not-l.false) c.llep_at-l.ensures i.1 c.requires.2 c.out-1.given w.kept w.at_after, c.if-at-ge-FULL.false)
+    (parts_then _ _ _ _ _ _ _ _ _ i.0 c.llep_at-l.result _ _ _ c.loop-within-test.true (not-false _ c.if-not-l.false) c.llep_at-l.ensures i.1 c.requires.2 c.out-1.given w.kept w.at_after, c.if-at-ge-FULL.false)
 
 pub returns-after-loop-within : goal.returns-after-loop-within
 returns-after-loop-within c = let i = c.loop-within.invariant.0 in record { part_steady = parts_steady _ _ _ _ _ _ _ _ _ i; parted_by = parts_by _ _ _ _ _ _ _ _ _ i }
@@ -55,5 +55,5 @@ pub returns-then-at-ge-FULL : goal.returns-then-at-ge-FULL
 returns-then-at-ge-FULL c =
     let i = c.loop-within.invariant in
     let w = c.low_line-put.ensures in
-    let h = parts_then _ _ _ _ _ _ _ _ _ i.0 c.llep_at-l.result _ _ _ c.loop-within-test.true (c.if-not-l.false) c.llep_at-l.ensures i.1 c.requires.2 c.out-1.given w.kept w.at_after in
+    let h = parts_then _ _ _ _ _ _ _ _ _ i.0 c.llep_at-l.result _ _ _ c.loop-within-test.true (not-false _ c.if-not-l.false) c.llep_at-l.ensures i.1 c.requires.2 c.out-1.given w.kept w.at_after in
     record { part_steady = parts_steady _ _ _ _ _ _ _ _ _ h; parted_by = parts_by _ _ _ _ _ _ _ _ _ h }
