@@ -20,12 +20,6 @@ loop-left-init c =
 pub turns-run-requires : goal.turns-run-requires
 turns-run-requires c = (c.loop-left.invariant.0.0, c.requires.begins.1)
 
-pub shape_of-room-in_default : goal.shape_of-room-in_default
-shape_of-room-in_default c = omega (arith, c.room-1.given, c.loop-left.invariant.1.1.1.0)
-
-pub shape_of-out-in_default : goal.shape_of-out-in_default
-shape_of-out-in_default c = omega (arith, c.out-1.given, c.loop-left.invariant.1.1.1.1)
-
 pub loop-left-preserved : goal.loop-left-preserved
 loop-left-preserved c =
     let i = c.loop-left.invariant in
@@ -39,13 +33,13 @@ loop-left-preserved c =
           able = a.able;
           placed = a.placed;
           ten = a.ten;
-          room = omega (arith, r.room, c.out-1.given);
+          room = omega (arith, r.room);
           from = m.from;
           end = m.end;
-          size = omega (arith, r.size, c.block-1.given);
+          size = omega (arith, r.size);
           count = omega (arith, a.count, a.end, r.end, r.size, i.1.0, fewer);
         },
         round i.0.1 t.listed a.end r.end m,
       ),
-      (omega (arith, a.count, a.end, r.end, r.size, i.1.0, fewer), (omega (arith, c.block-1.given, i.1.1.0), (omega (arith, c.room-1.given, i.1.1.1.0), omega (arith, c.out-1.given, i.1.1.1.1)))),
+      (omega (arith, a.count, a.end, r.end, r.size, i.1.0, fewer), (omega (arith, i.1.1.0), (omega (arith, i.1.1.1.0), omega (arith, i.1.1.1.1)))),
     )

@@ -37,23 +37,17 @@ pub loop-within-preserved : goal.loop-within-preserved
 loop-within-preserved c =
     let i = c.loop-within.invariant in
     let w = c.low_line-put.ensures in
-    (parts_then _ _ _ _ _ _ _ _ _ i.0 c.llep_at-l.result _ _ _ c.loop-within-test.true (not-false _ c.if-not-l.false) c.llep_at-l.ensures i.1 c.requires.2 c.out-1.given w.kept w.at_after, c.if-at-ge-FULL.false)
+    (parts_then _ _ _ _ _ _ _ _ _ i.0 c.llep_at-l.result _ _ _ c.loop-within-test.true (not-false _ c.if-not-l.false) c.llep_at-l.ensures i.1 c.requires.2 (omega arith) w.kept w.at_after, c.if-at-ge-FULL.false)
 
 pub returns-after-loop-within : goal.returns-after-loop-within
 returns-after-loop-within c = let i = c.loop-within.invariant.0 in record { part_steady = parts_steady _ _ _ _ _ _ _ _ _ i; parted_by = parts_by _ _ _ _ _ _ _ _ _ i }
 
-pub shape_of-out-then-not-l : goal.shape_of-out-then-not-l
-shape_of-out-then-not-l c = c.loop-within.invariant.0.long
-
 pub returns-then-not-l : goal.returns-then-not-l
 returns-then-not-l c = let i = c.loop-within.invariant.0 in record { part_steady = parts_steady _ _ _ _ _ _ _ _ _ i; parted_by = parts_by _ _ _ _ _ _ _ _ _ i }
-
-pub shape_of-out-then-at-ge-FULL : goal.shape_of-out-then-at-ge-FULL
-shape_of-out-then-at-ge-FULL c = c.out-1.given ∙ c.loop-within.invariant.0.long
 
 pub returns-then-at-ge-FULL : goal.returns-then-at-ge-FULL
 returns-then-at-ge-FULL c =
     let i = c.loop-within.invariant in
     let w = c.low_line-put.ensures in
-    let h = parts_then _ _ _ _ _ _ _ _ _ i.0 c.llep_at-l.result _ _ _ c.loop-within-test.true (not-false _ c.if-not-l.false) c.llep_at-l.ensures i.1 c.requires.2 c.out-1.given w.kept w.at_after in
+    let h = parts_then _ _ _ _ _ _ _ _ _ i.0 c.llep_at-l.result _ _ _ c.loop-within-test.true (not-false _ c.if-not-l.false) c.llep_at-l.ensures i.1 c.requires.2 (omega arith) w.kept w.at_after in
     record { part_steady = parts_steady _ _ _ _ _ _ _ _ _ h; parted_by = parts_by _ _ _ _ _ _ _ _ _ h }

@@ -70,4 +70,4 @@ returns c =
     let p = c.requires in
     let e = sym c.top.ensures ∙ c.in-Says.is in
     let r = c.payload in
-    record { steady = r.ensures.steady; passes_by = passes_says r.result a.t a.base a.stamp a.number a.tp.now a.room.now a.out.now a.at _ _ _ _ p.0 e (omega (arith, p.2, p.3)) c.out-2-1.given r.ensures.leaves_by }
+    record { steady = r.ensures.steady; passes_by = passes_says r.result a.t a.base a.stamp a.number a.tp.now a.room.now a.out.now a.at _ _ _ _ p.0 e (omega (arith, p.2, p.3)) (omega arith) r.ensures.leaves_by }

@@ -70,12 +70,6 @@ back-requires c =
     let q = c.pass-p in
     along_kempt _ _ _ _ _ l.count l.t _ _ _ _ _ _ l.invariant q.result _ _ _ _ _ q.ensures.steady q.ensures.passes_by refl c.counted-counted.ensures
 
-pub shape_of-room-then-p-ne-DONE : goal.shape_of-room-then-p-ne-DONE
-shape_of-room-then-p-ne-DONE c = c.room-1.given ∙ c.loop-at.invariant.room
-
-pub shape_of-out-then-p-ne-DONE : goal.shape_of-out-then-p-ne-DONE
-shape_of-out-then-p-ne-DONE c = c.out-1.given ∙ c.loop-at.invariant.long
-
 pub returns-then-p-ne-DONE : goal.returns-then-p-ne-DONE
 returns-then-p-ne-DONE c =
     let l = c.loop-at in
@@ -118,7 +112,7 @@ loop-at-preserved c =
     let is = c.in-Packet.is in
     let tp = c.data_of-tp.ensures in
     let w = data_within _ c.args.block.now _ l.from c.args.till _ l.invariant.end whole tp in
-    along_done _ _ _ _ _ l.count l.t _ _ _ _ _ _ l.invariant q.result _ _ _ _ _ q.ensures.steady q.ensures.passes_by refl c.counted-counted.ensures _ _ whole is tp (omega (arith, c.if-p-ne-DONE.false)) w c.room-1.given c.out-1.given
+    along_done _ _ _ _ _ l.count l.t _ _ _ _ _ _ l.invariant q.result _ _ _ _ _ q.ensures.steady q.ensures.passes_by refl c.counted-counted.ensures _ _ whole is tp (omega (arith, c.if-p-ne-DONE.false)) w (omega arith) (omega arith)
 
 pub back-requires-2 : goal.back-requires-2
 back-requires-2 c = (along-out (goal.at.back-requires-2 c).Left-loop-at).kempt

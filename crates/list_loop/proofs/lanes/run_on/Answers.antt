@@ -36,15 +36,9 @@ overflow_cast-content c = omega (arith, c.loop-due.invariant.one c.if-due.true)
 pub ordinary_line-put-requires : goal.ordinary_line-put-requires
 ordinary_line-put-requires c = c.loop-due.invariant.ten
 
-pub shape_of-room-then-at-ge-FULL : goal.shape_of-room-then-at-ge-FULL
-shape_of-room-then-at-ge-FULL c = c.loop-due.invariant.full
-
-pub shape_of-out-then-at-ge-FULL : goal.shape_of-out-then-at-ge-FULL
-shape_of-out-then-at-ge-FULL c = c.out-1.given ∙ c.loop-due.invariant.long
-
 pub returns-then-at-ge-FULL : goal.returns-then-at-ge-FULL
 returns-then-at-ge-FULL c =
-    let h = line_behind _ _ _ _ _ _ _ _ _ _ _ _ _ _ _ _ _ _ c.loop-due.invariant _ _ _ c.if-due.true c.requires.kept.2 c.out-1.given c.ordinary_line-put.ensures.kept c.ordinary_line-put.ensures.at_after in
+    let h = line_behind _ _ _ _ _ _ _ _ _ _ _ _ _ _ _ _ _ _ c.loop-due.invariant _ _ _ c.if-due.true c.requires.kept.2 (omega arith) c.ordinary_line-put.ensures.kept c.ordinary_line-put.ensures.at_after in
     plain_led _ _ _ _ _ _ _ _ _ _ _ _ _ _ _ _ h c.args.o.track _ _ _ _ _ _ c.if-due.true c.turned.ensures c.requires.content_bound.3 c.as_left.ensures
 
 pub ahead-a-requires : goal.ahead-a-requires
@@ -57,31 +51,13 @@ behind-requires c =
     let p = c.requires in
     record { flips_bound = (p.content_bound.3, x.0, p.kept.3); fact = x.1 }
 
-pub shape_of-room-then-a-ne-OFF : goal.shape_of-room-then-a-ne-OFF
-shape_of-room-then-a-ne-OFF c = c.room-1.given ∙ c.loop-due.invariant.full
-
-pub shape_of-out-then-a-ne-OFF : goal.shape_of-out-then-a-ne-OFF
-shape_of-out-then-a-ne-OFF c = (joined (goal.at.shape_of-out-then-a-ne-OFF c).Joined-due).0.long
-
 pub returns-then-a-ne-OFF : goal.returns-then-a-ne-OFF
 returns-then-a-ne-OFF c =
     let a = c.ahead-a in
     sight_led _ _ _ _ _ _ _ _ _ _ _ _ _ _ _ _ (joined (goal.at.returns-then-a-ne-OFF c).Joined-due).0 a.result _ _ _ _ _ _ _ a.ensures (sight_sort a.result a.ensures.sort c.if-a-ne-WHOLE.true c.if-a-ne-OFF.true) c.behind.ensures c.as_left-then-a-ne-OFF.ensures
 
-pub shape_of-room-then-due-2 : goal.shape_of-room-then-due-2
-shape_of-room-then-due-2 c = c.loop-due.invariant.full
-
-pub shape_of-out-then-due-2 : goal.shape_of-out-then-due-2
-shape_of-out-then-due-2 c = (joined (goal.at.shape_of-out-then-due-2 c).Joined-due).0.long
-
 pub returns-then-due-2 : goal.returns-then-due-2
 returns-then-due-2 c = plain_led _ _ _ _ _ _ _ _ _ _ _ _ _ _ _ _ (joined (goal.at.returns-then-due-2 c).Joined-due).0 c.args.o.track _ _ _ _ _ _ c.if-due-2.true c.turned-then-due-2.ensures c.requires.content_bound.3 c.as_left-then-due-2.ensures
-
-pub shape_of-room-then-a-ne-WHOLE : goal.shape_of-room-then-a-ne-WHOLE
-shape_of-room-then-a-ne-WHOLE c = c.loop-due.invariant.full
-
-pub shape_of-out-then-a-ne-WHOLE : goal.shape_of-out-then-a-ne-WHOLE
-shape_of-out-then-a-ne-WHOLE c = (joined (goal.at.shape_of-out-then-a-ne-WHOLE c).Joined-due).0.long
 
 pub returns-then-a-ne-WHOLE : goal.returns-then-a-ne-WHOLE
 returns-then-a-ne-WHOLE c = let p = c.requires in stays_led _ _ _ _ _ _ _ _ _ _ _ _ _ _ _ _ (joined (goal.at.returns-then-a-ne-WHOLE c).Joined-due).0 _ _ _ _ _ c.if-due-2.false (p.content_bound.2 ((joined (goal.at.returns-then-a-ne-WHOLE c).Joined-due).0.same c.if-due-2.false).0) p.content_bound.4 c.as_left-then-a-ne-WHOLE.ensures
@@ -110,4 +86,4 @@ loop-due-preserved c =
     let w = c.ahead-a.ensures.whole c.if-a-ne-WHOLE.false in
     let j = joined (goal.at.loop-due-preserved c).Joined-due in
     let size : (a.from + 6 + a.size) - (a.from + 6) ≡ a.size = omega arith in
-    sight_head _ _ _ _ _ _ _ _ _ _ _ _ _ _ _ _ j.0 a (a.from + 6) ((a.from + 6 + a.size) - (a.from + 6)) _ j.1 w c.copy_at.ensures refl size c.room-in-loop-due-1.given
+    sight_head _ _ _ _ _ _ _ _ _ _ _ _ _ _ _ _ j.0 a (a.from + 6) ((a.from + 6 + a.size) - (a.from + 6)) _ j.1 w c.copy_at.ensures refl size (omega arith)
