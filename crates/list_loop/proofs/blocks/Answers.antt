@@ -1,15 +1,10 @@
 -- `list_loop::blocks` is safe and ends: it counts down. The invariant: no more TPs are done than the blocks so far have bytes,
 -- and the blocks follow each other as the theorem on the whole listing asks.
 -- Assumes nothing.
-use Prim.Native.Nat.{◌+◌, ◌*◌, ◌≤◌}
-use mathlib.Core.Path.{◌≡◌, refl}
+use mathlib.Core.Path.{refl}
 use native.Mathlib.Omega.{arith}
-use lib.ListN.{length}
-use Rattle.list_loop.specs.Running.{Ready}
-use Rattle.list_loop.specs.Whole.{setting_of}
-use Rattle.list_loop.proofs.Rounds.{Comes, begins, round}
+use Rattle.list_loop.proofs.Rounds.{begins, round}
 use Rattle.console.proofs.Onward.{goes_on}
-use borrow.Author.Rules.{rules}
 use Rattle.list_loop.proofs.blocks.Goals as goal
 
 pub loop-left-init : goal.loop-left-init

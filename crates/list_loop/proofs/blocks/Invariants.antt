@@ -2,14 +2,11 @@
 -- and the blocks follow each other as the theorem on the whole listing asks.
 -- Assumes nothing.
 use Prim.Native.Nat.{◌+◌, ◌*◌, ◌≤◌}
-use mathlib.Core.Path.{◌≡◌, refl}
-use native.Mathlib.Omega.{arith}
+use mathlib.Core.Path.{◌≡◌}
 use lib.ListN.{length}
 use Rattle.list_loop.specs.Running.{Ready}
 use Rattle.list_loop.specs.Whole.{setting_of}
-use Rattle.list_loop.proofs.Rounds.{Comes, begins, round}
-use Rattle.console.proofs.Onward.{goes_on}
-use borrow.Author.Rules.{rules}
+use Rattle.list_loop.proofs.Rounds.{Comes}
 use Rattle.list_loop.proofs.blocks.Given as goal
 
 abbrev pub invariant-loop-left : goal.invariant-loop-left

@@ -1,13 +1,11 @@
 -- `list_loop::turn` meets its contract: a TP passed over, one that is all data, a TP's finds, or a gap told.
 -- Assumes nothing.
 use mathlib.Core.Path.{refl, subst⁻¹}
-use mathlib.Core.Logic.{⊎_elim}
 use native.Mathlib.Omega.{arith}
 use Rattle.list_loop.proofs.Lists.{able_ended, does_found, does_told, found_ended, placed_ended}
 use Rattle.receiver.specs.Tracks.{Placed}
 use Rattle.receiver.proofs.PassingOver.{data_asked, data_gives, over_gives}
 use Rattle.receiver.proofs.Owning.{placed_gap}
-use borrow.Author.Rules.{rules}
 use Rattle.list_loop.proofs.turn.Goals as goal
 
 pub returns-then-is_over : goal.returns-then-is_over

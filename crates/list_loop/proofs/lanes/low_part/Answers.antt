@@ -1,12 +1,8 @@
 -- `list_loop::lanes::low_part` meets its contract: it goes on within the TP, by calls, and ends, since each LLEP is seven bytes or more.
 -- Assumes nothing.
-use Prim.Native.Nat.{◌-◌, ◌<◌}
-use mathlib.Core.Path.{◌∙◌}
 use native.Mathlib.Omega.{arith}
-use lib.ListN.{length}
-use borrow.Author.Rules.{rules}
 use borrow.Author.Tests.{not-false}
-use Rattle.list_loop.proofs.Parting.{Parts, brief_few, parts_by, parts_first, parts_steady, parts_then}
+use Rattle.list_loop.proofs.Parting.{brief_few, parts_by, parts_first, parts_steady, parts_then}
 use Rattle.list_loop.proofs.lanes.low_part.Goals as goal
 
 pub loop-within-init : goal.loop-within-init

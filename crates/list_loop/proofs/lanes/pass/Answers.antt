@@ -7,7 +7,6 @@ use Rattle.receiver.specs.declared.lane.Lane.TheVariants.{Lost, Idle}
 use Rattle.receiver.specs.Tracks.{FilledIf}
 use Rattle.receiver.proofs.Tracked.{lane_idle, lane_lost}
 use Rattle.list_loop.proofs.Passes.{passes_all, passes_over, passes_says, passes_told, says, steady_left, told_put}
-use borrow.Author.Rules.{rules}
 use Rattle.list_loop.proofs.lanes.pass.Goals as goal
 
 pub dropped-n-requires : goal.dropped-n-requires

@@ -1,7 +1,7 @@
 -- `list_loop::lanes::pass_all` meets its contract: the receiver is its track's from TP to TP, the lines held are those of the TPs taken, and the
 -- loop ends: each TP done moves on in the input block.
 -- Assumes nothing.
-use Prim.Native.Nat.{ℕ, ◌-◌, ◌<◌}
+use Prim.Native.Nat.{ℕ, ◌<◌}
 use mathlib.Core.Path.{refl, ap, sym, subst⁻¹, ◌∙◌}
 use native.Mathlib.Omega.{arith}
 use Rattle.console.proofs.Onward.{data_within}
@@ -10,7 +10,6 @@ use Rattle.list_loop.proofs.Lists.{listed_none}
 use Rattle.receiver.specs.Lanes.{in_lane}
 use Rattle.receiver.specs.Tracks.{Kempt, lane_in}
 use Rattle.receiver.specs.declared.Stage.{Stage}
-use borrow.Author.Rules.{rules}
 use Rattle.list_loop.proofs.lanes.pass_all.Goals as goal
 use Rattle.list_loop.proofs.lanes.pass_all.Goals.{Left-loop-at, else-loop-at-test, then-loop-at-test+in_default, then-loop-at-test+in-Whole+in_default-said, then-loop-at-test+in-Whole+in-Packet+then-p-eq-ALL}
 

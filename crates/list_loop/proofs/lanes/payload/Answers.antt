@@ -1,15 +1,13 @@
 -- `list_loop::lanes::payload` meets its contract: the low-latency part ends within the TP, and the ordinary bytes follow, by the calls of both.
 -- Assumes nothing.
 use Prim.Native.Nat.{◌≤◌, ◌<◌}
-use mathlib.Core.Path.{◌≡◌, refl, ap, subst⁻¹, ◌∙◌}
-use mathlib.Core.Logic.{⊎_elim}
+use mathlib.Core.Path.{refl, subst⁻¹}
 use mathlib.Core.Bool.{true, false}
 use native.Mathlib.Omega.{arith}
 use lib.ListN.{length}
 use Rattle.listing.specs.Tens.{Kept}
 use Rattle.listing.specs.declared.Ten.{Ten}
 use Rattle.list_loop.proofs.Parting.{past_four, payload_all, payload_behind, payload_part, payload_plain, steady_from}
-use borrow.Author.Rules.{rules}
 use Rattle.list_loop.proofs.lanes.payload.Goals as goal
 use Rattle.list_loop.proofs.lanes.payload.Goals.{Joined-low, then-low+else-p+else-held-ge-FULL, else-low}
 

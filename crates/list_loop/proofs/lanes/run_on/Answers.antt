@@ -1,13 +1,12 @@
 -- `list_loop::lanes::run_on` meets its contract: it goes on within the TP, by calls, and ends, since each EP is six bytes or more.
 -- Assumes nothing.
-use Prim.Native.Nat.{ℕ, ◌+◌, ◌-◌, ◌<◌}
-use mathlib.Core.Path.{◌≡◌, refl, subst⁻¹, ◌∙◌}
+use Prim.Native.Nat.{◌+◌, ◌-◌, ◌<◌}
+use mathlib.Core.Path.{◌≡◌, refl}
 use native.Mathlib.Omega.{arith}
 use lib.Dec.{eqb}
 use lib.ListN.{length}
-use borrow.Author.Rules.{rules}
 use borrow.Author.Tests.{eqb-true}
-use Rattle.list_loop.proofs.Leading.{Behind, Head, behind_as, head_first, line_behind, none_behind, plain_led, sight_asks, sight_head, sight_led, sight_sort, stays_led}
+use Rattle.list_loop.proofs.Leading.{Behind, behind_as, head_first, line_behind, none_behind, plain_led, sight_asks, sight_head, sight_led, sight_sort, stays_led}
 use Rattle.list_loop.proofs.lanes.run_on.Goals as goal
 use Rattle.list_loop.proofs.lanes.run_on.Goals.{Joined-due, then-due+else-at-ge-FULL, else-due}
 
