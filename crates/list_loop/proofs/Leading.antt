@@ -308,48 +308,48 @@ module _ (s : Stamp) (n : ℕ) (tp : List ℕ) (due₀ : Bool) (place₀ c₀ le
 
     -- the TP's end
     pub ends_led : (l : Lane) (m' m'' : List ℕ) (v : Track) (q : Passed) (t : Track) (left offset here : ℕ) → AheadAs (M.Ends l) place s tp room m' → Some l → lane_in v ≡ l
-        → v.flips < 256 → m'' ≡ m' → q ≡ record { left = 1; offset = 0; place = 0; track = v; ten = kept; at = at } → Steady q from × Led q t left offset here m'' out
+        → v.flips < 256 → m'' ≡ m' → q ≡ record { left = 1; offset = 0; place = 0; track = v; ten = kept; at = at } → record { steady : Steady q from; runs_by : Led q t left offset here m'' out }
     ends_led l m' m'' v q t left offset here a some is flips em e =
-        let z : Passed = record { left = 1; offset = 0; place = 0; track = v; ten = kept; at = at } in (
-          subst⁻¹ (λ (x : Passed). Steady x from) e
-              (record { ten = h.ten; at = h.more; left = omega arith; sort = sort_few v (subst⁻¹ Some is some) }),
-          λ b k r m₀ d o g.
+        let z : Passed = record { left = 1; offset = 0; place = 0; track = v; ten = kept; at = at } in record {
+          steady = subst⁻¹ (λ (x : Passed). Steady x from) e
+              (record { ten = h.ten; at = h.more; left = omega arith; sort = sort_few v (subst⁻¹ Some is some) });
+          runs_by = λ b k r m₀ d o g.
               subst⁻¹ (λ (x : Passed). LedTo due₀ x t left offset here b k r n tp m₀ room₀ out₀ from m'' out) e
               (subst⁻¹ (λ (x : List ℕ). LedTo due₀ z t left offset here b k r n tp m₀ room₀ out₀ from x out) em
               (ended refl
               (done_with b k l (own_of k) m' out at z (given_from (paused b k r m₀ d o g) (met_then (M.Ends l) m' a b k d o).0) is refl)
-              (record { tidy = subst⁻¹ (Tidy b.limit) is (met_then (M.Ends l) m' a b k d o).1; flips = flips }))),
-        )
+              (record { tidy = subst⁻¹ (Tidy b.limit) is (met_then (M.Ends l) m' a b k d o).1; flips = flips })));
+        }
 
     -- between two EPs, behind a line
     pub plain_led : (u v : Track) (q : Passed) (t : Track) (left offset here : ℕ) → due ≡ true → v ≡ turned_of u 1 → u.flips < 256
-        → q ≡ record { left = 2; offset = 0; place = place; track = v; ten = kept; at = at } → Steady q from × Led q t left offset here room out
+        → q ≡ record { left = 2; offset = 0; place = place; track = v; ten = kept; at = at } → record { steady : Steady q from; runs_by : Led q t left offset here room out }
     plain_led u v q t left offset here is ev flips eq =
         let z : Passed = record { left = 2; offset = 0; place = place; track = turned_of u 1; ten = kept; at = at } in
-        let e : q ≡ z = eq ∙ ap (λ (x : Track). record { left = 2; offset = 0; place = place; track = x; ten = kept; at = at }) ev in (
-          subst⁻¹ (λ (x : Passed). Steady x from) e (record { ten = h.ten; at = h.more; left = omega arith; sort = omega arith }),
-          λ b k r m₀ d o g.
+        let e : q ≡ z = eq ∙ ap (λ (x : Track). record { left = 2; offset = 0; place = place; track = x; ten = kept; at = at }) ev in record {
+          steady = subst⁻¹ (λ (x : Passed). Steady x from) e (record { ten = h.ten; at = h.more; left = omega arith; sort = omega arith });
+          runs_by = λ b k r m₀ d o g.
               let y = subst (λ (x : Bool). Then x place n b k r tp m₀ out₀ from room out at) is (h.ran b k r m₀ d o g) in
               subst⁻¹ (λ (x : Passed). LedTo due₀ x t left offset here b k r n tp m₀ room₀ out₀ from room out) e
               (onward refl
               (record { lines = y.lines; hears = y.hears; held = y.held; able = lane_able b k L.Idle Plain place d.size (omega arith) (omega (arith, h.within, d.whole)) (omega arith) })
               (h.some is)
-              (record { tidy = omega arith; flips = flips })),
-        )
+              (record { tidy = omega arith; flips = flips }));
+        }
 
     -- nowhere
     pub stays_led : (q : Passed) (t : Track) (left offset here : ℕ) → due ≡ false → t.sort ≤ 3 → left ≤ 4
-        → q ≡ record { left = left; offset = offset; place = here; track = t; ten = kept; at = at } → Steady q from × Led q t left offset here room out
+        → q ≡ record { left = left; offset = offset; place = here; track = t; ten = kept; at = at } → record { steady : Steady q from; runs_by : Led q t left offset here room out }
     stays_led q t left offset here is sort few e =
-        let same = h.same is in (
-          subst⁻¹ (λ (x : Passed). Steady x from) e (record { ten = h.ten; at = h.more; left = few; sort = sort }),
-          λ b k r m₀ d o g.
-              subst⁻¹ (λ (x : Passed). LedTo due₀ x t left offset here b k r n tp m₀ room₀ out₀ from room out) e (stays same.0 refl refl refl refl same.3 same.1 same.2),
-        )
+        let same = h.same is in record {
+          steady = subst⁻¹ (λ (x : Passed). Steady x from) e (record { ten = h.ten; at = h.more; left = few; sort = sort });
+          runs_by = λ b k r m₀ d o g.
+              subst⁻¹ (λ (x : Passed). LedTo due₀ x t left offset here b k r n tp m₀ room₀ out₀ from room out) e (stays same.0 refl refl refl refl same.3 same.1 same.2);
+        }
 
     -- the TP's end, or what it cuts
     pub sight_led : (a : Sight) (m'' : List ℕ) (v : Track) (q : Passed) (t : Track) (left offset here : ℕ) → Seen a place tp (length room) → (a.sort ≡ 1) ⊎ (a.sort ≡ 2)
-        → BehindAs v a s tp room m'' → q ≡ record { left = 1; offset = 0; place = 0; track = v; ten = kept; at = at } → Steady q from × Led q t left offset here m'' out
+        → BehindAs v a s tp room m'' → q ≡ record { left = 1; offset = 0; place = 0; track = v; ten = kept; at = at } → record { steady : Steady q from; runs_by : Led q t left offset here m'' out }
     sight_led a m'' v q t left offset here seen sort y e =
         ⊎_elim
         (λ z. ends_led (tail_in a.from s tp) room m'' v q t left offset here ((seen.tail z).met s room) (tail_some (eqb (length tp - a.from) 0) (place_at s a.from) (length tp - a.from) _) (y.tail z).0 y.flips (y.tail z).1 e)
@@ -368,13 +368,13 @@ module _ (s : Stamp) (n : ℕ) (tp : List ℕ) (due₀ : Bool) (place₀ c₀ le
 
 module _ (s : Stamp) (n : ℕ) (tp : List ℕ) (t : Track) (offset here : ℕ) (m out : List ℕ) (at : ℕ) (kept : Ten) (k : Kept kept) where
   pub off_led : (q : Passed) (left : ℕ) (m' : List ℕ) → m' ≡ m → t.sort ≤ 3 → left ≤ 4
-      → q ≡ record { left = left; offset = offset; place = here; track = t; ten = kept; at = at } → Steady q at × LeadsBy q t s left offset here n tp m out at m' out
-  off_led q left m' em sort few e = (
-    subst⁻¹ (λ (x : Passed). Steady x at) e (record { ten = k; at = omega arith; left = few; sort = sort }),
-    λ b k d o.
+      → q ≡ record { left = left; offset = offset; place = here; track = t; ten = kept; at = at } → record { steady : Steady q at; leads_by : LeadsBy q t s left offset here n tp m out at m' out }
+  off_led q left m' em sort few e = record {
+    steady = subst⁻¹ (λ (x : Passed). Steady x at) e (record { ten = k; at = omega arith; left = few; sort = sort });
+    leads_by = λ b k d o.
         subst⁻¹ (λ (x : Passed). LedTo false x t left offset here b k (in_lane b k (lane_in t) (Due offset) here) n tp m m out at m' out) e
-        (stays refl refl refl refl refl refl em refl),
-  )
+        (stays refl refl refl refl refl refl em refl);
+  }
 
   module _ (w : Onto) (m₁ : List ℕ) (y : SetsOut w t offset here tp m m₁) (four : 4 ≤ here) (small : offset < 2048) where
     -- what the call there comes to
@@ -383,19 +383,19 @@ module _ (s : Stamp) (n : ℕ) (tp : List ℕ) (t : Track) (offset here : ℕ) (
     met_out z a b k d = a b k (own_of k) d four small
 
     pub over_led : (q : Passed) (left : ℕ) → w.sort ≡ 1 → q ≡ record { left = 1; offset = 0; place = 0; track = w.track; ten = kept; at = at }
-        → Steady q at × LeadsBy q t s left offset here n tp m out at m₁ out
+        → record { steady : Steady q at; leads_by : LeadsBy q t s left offset here n tp m out at m₁ out }
     over_led q left is e =
         let a = y.over is in
-        let z : Passed = record { left = 1; offset = 0; place = 0; track = w.track; ten = kept; at = at } in (
-          subst⁻¹ (λ (x : Passed). Steady x at) e (record { ten = k; at = omega arith; left = omega arith; sort = a.0 }),
-          λ b k d o.
+        let z : Passed = record { left = 1; offset = 0; place = 0; track = w.track; ten = kept; at = at } in record {
+          steady = subst⁻¹ (λ (x : Passed). Steady x at) e (record { ten = k; at = omega arith; left = omega arith; sort = a.0 });
+          leads_by = λ b k d o.
               let r = in_lane b k (lane_in t) (Due offset) here in
               let met = met_out (M.Ends (lane_in w.track)) a.1 b k d in
               subst⁻¹ (λ (x : Passed). LedTo false x t left offset here b k r n tp m m out at m₁ out) e
               (ended refl
               (done_with b k (lane_in w.track) (own_of k) m₁ out at z (given_from (paused_in b k (lane_in t) (Due offset) here refl reached_none) met.0) refl refl)
-              (record { tidy = met.1; flips = y.flips })),
-        )
+              (record { tidy = met.1; flips = y.flips }));
+        }
 
     -- a packet, or the call between two EPs
     begun_as : (b : Receiver) (k : ℕ) → Lends b here tp m → (w.sort ≡ 2) ⊎ (w.sort ≡ 3)

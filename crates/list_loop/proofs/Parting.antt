@@ -196,23 +196,23 @@ module _ (t : Track) (s : Stamp) (low : Bool) (o n : ℕ) (tp m out : List ℕ) 
   -- all of it
   pub payload_all : (p : Parted) (out₁ : List ℕ) (q : Passed) → PartSteady p tp out out₁ at → p.place ≡ 4
       → q ≡ record { left = 0; offset = 0; place = 4; track = t; ten = p.ten; at = p.at }
-      → Steady q at × LeavesBy q t s (start_stage low o) 4 n tp m out at m out₁
+      → record { steady : Steady q at; leaves_by : LeavesBy q t s (start_stage low o) 4 n tp m out at m out₁ }
   payload_all p out₁ q y is e =
-      let none = y.none is in (
-        subst⁻¹ (λ (x : Passed). Steady x at) e (record { ten = y.ten; at = y.at; left = omega arith; sort = sort }),
-        λ b k d own z.
+      let none = y.none is in record {
+        steady = subst⁻¹ (λ (x : Passed). Steady x at) e (record { ten = y.ten; at = y.at; left = omega arith; sort = sort });
+        leaves_by = λ b k d own z.
             subst⁻¹ (λ (x : Passed). LeftAs x t b k (in_lane b k (lane_in t) (start_stage low o) 4) n tp m out at m out₁) e
-            (record { all = λ f. (refl, none.0, none.1, refl); done = λ f. absurd (omega (arith, f)); on = λ f. absurd (omega (arith, f)); kempt = z }),
-      )
+            (record { all = λ f. (refl, none.0, none.1, refl); done = λ f. absurd (omega (arith, f)); on = λ f. absurd (omega (arith, f)); kempt = z });
+      }
 
   module _ (p : Parted) (out₁ : List ℕ) (is : low ≡ true) (y : PartSteady p tp out out₁ at) (parted : PartedBy p n tp out at out₁) where
     -- what follows a place in the low-latency part, or behind it
     pub payload_part : (q : Passed) (left : ℕ) → (x : Bool) → p.within ≡ x → stage_by left o ≡ start_stage x o → 1 < left → left ≤ 4 → at < p.at
         → q ≡ record { left = left; offset = o; place = p.place; track = t; ten = p.ten; at = p.at }
-        → Steady q at × LeavesBy q t s (start_stage low o) 4 n tp m out at m out₁
-    payload_part q left x within stage some few more e = (
-      subst⁻¹ (λ (z : Passed). Steady z at) e (record { ten = y.ten; at = y.at; left = few; sort = sort }),
-      λ b k d own z.
+        → record { steady : Steady q at; leaves_by : LeavesBy q t s (start_stage low o) 4 n tp m out at m out₁ }
+    payload_part q left x within stage some few more e = record {
+      steady = subst⁻¹ (λ (z : Passed). Steady z at) e (record { ten = y.ten; at = y.at; left = few; sort = sort });
+      leaves_by = λ b k d own z.
           let h = parted b k (lane_in t) o m d z.tidy small in
           let there : in_lane b k (lane_in t) (stage_by left o) p.place ≡ in_lane b k (lane_in t) (start_stage p.within o) p.place =
           ap (λ (g : Stage). in_lane b k (lane_in t) g p.place) (stage ∙ ap (λ (g : Bool). start_stage g o) (sym within)) in
@@ -232,8 +232,8 @@ module _ (t : Track) (s : Stamp) (low : Bool) (o n : ℕ) (tp m out : List ℕ) 
                   more,
                 );
             kempt = z;
-          })),
-    )
+          }));
+    }
 
     -- the ordinary bytes behind it
     pub payload_behind : (q : Passed) (left here held : ℕ) (out₂ m' out' : List ℕ) → p.within ≡ false → left ≡ 3 → here ≡ p.place → held ≡ p.at → out₂ ≡ out₁

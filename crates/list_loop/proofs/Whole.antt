@@ -5,13 +5,12 @@ use mathlib.Core.Path.{◌≡◌, refl, ap, sym, subst, subst⁻¹, ◌∙◌}
 use mathlib.Core.Logic.{◌⊎◌, inl, inr, ⊎_elim}
 use mathlib.Core.List.{List, [], ◌∷◌, ◌++◌, append_assoc, append-nil}
 use native.Mathlib.Omega.{arith}
-use lib.ListN.{length, take, drop, length-take}
+use lib.ListN.{length, length-take}
 use Rattle.console.proofs.Onward.{unread_behind}
 use Rattle.house.specs.Records.{length_of}
 use Rattle.house.specs.Series.{unread_in, Item, Taken}
 use Rattle.house.specs.Series as T
 use Rattle.house.specs.Slices.{at_hand, data_in}
-use Rattle.house.specs.declared.AtHand.{AtHand}
 use Rattle.house.specs.declared.AtHand.TheVariants.{Whole}
 use Rattle.house.specs.declared.Place.TheVariants.{Listing}
 use Rattle.house.specs.declared.Record.{Record}
@@ -19,12 +18,11 @@ use Rattle.house.specs.declared.Record.TheVariants.{Packet, Gap}
 use Rattle.house.proofs.Slicing.{whole_fits, more_whole, more_data}
 use Rattle.house.proofs.Taking.{taken_more}
 use Rattle.listing.specs.Hearing.{Hears, Ends}
-use Rattle.listing.specs.Recordings.{listed}
 use Rattle.listing.proofs.Heard.{hears_on, ends_on}
 use Rattle.receiver.specs.declared.Receiver.{Receiver}
 use Rattle.receiver.specs.Call.{gap_of}
 use Rattle.receiver.specs.Tp.{Setting, Input, tp_in}
-use Rattle.list_loop.specs.Running.{Standing, standing, Lists, nothing, hears, ends, gap, Listed}
+use Rattle.list_loop.specs.Running.{Standing, standing, Lists, nothing, hears, ends, gap}
 use Rattle.list_loop.specs.Whole.{input_in, inputs_in, Goes, first, next, Within, Held}
 use Rattle.list_loop.specs.declared.Run.{Run}
 use Rattle.list_loop.proofs.Between.{Between, begun, held_is, gap_told_lem, tp_begun, tp_done}

@@ -1,5 +1,5 @@
 -- TPs in tracks: what of a TP is left to calls, and that the lines put are those of the calls made. Assumes nothing.
-use Rattle.std.specs.Prelude.{ℕ, ◌+◌, ◌≤◌, ◌<◌, ◌≡◌, Bool, cond, true, false, List, ◌++◌, eqb, length, take}
+use Rattle.std.specs.Prelude.{ℕ, ◌≤◌, ◌<◌, ◌≡◌, Bool, cond, true, false, List, ◌++◌, eqb, length, take}
 use Rattle.listing.specs.Hearing.{Hears, Ends}
 use Rattle.listing.specs.Tens.{Kept}
 use Rattle.receiver.specs.Call.{Gives, call_of}

@@ -2,7 +2,6 @@
 -- Assumes nothing.
 use native.Mathlib.Omega.{arith}
 use Rattle.console.proofs.Onward.{begins}
-use borrow.Author.Rules.{rules}
 use Rattle.list_loop.proofs.from_input.Goals as goal
 
 pub list-requires : goal.list-requires

@@ -4,7 +4,6 @@ use mathlib.Core.Path.{refl, subst}
 use native.Mathlib.Omega.{arith}
 use Rattle.listing.proofs.Heard.{header_held}
 use Rattle.receiver.specs.Call.{AbleIf}
-use borrow.Author.Rules.{rules}
 use Rattle.list_loop.proofs.Beginning.{begins, placed_first}
 use Rattle.list_loop.proofs.list.Goals as goal
 

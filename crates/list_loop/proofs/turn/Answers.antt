@@ -1,13 +1,11 @@
 -- `list_loop::turn` meets its contract: a TP passed over, one that is all data, a TP's finds, or a gap told.
 -- Assumes nothing.
 use mathlib.Core.Path.{refl, subst⁻¹}
-use mathlib.Core.Logic.{⊎_elim}
 use native.Mathlib.Omega.{arith}
 use Rattle.list_loop.proofs.Lists.{able_ended, does_found, does_told, found_ended, placed_ended}
 use Rattle.receiver.specs.Tracks.{Placed}
 use Rattle.receiver.proofs.PassingOver.{data_asked, data_gives, over_gives}
 use Rattle.receiver.proofs.Owning.{placed_gap}
-use borrow.Author.Rules.{rules}
 use Rattle.list_loop.proofs.turn.Goals as goal
 
 pub returns-then-is_over : goal.returns-then-is_over
@@ -72,8 +70,7 @@ returns-in-Packet c =
 pub returns : goal.returns
 returns c =
     let a = c.args in
-    let g = c.gap.ensures in
-    let k = c.in_default.in_default-own.keys2 in record {
+    let g = c.gap.ensures in record {
       onward = record {
         able = g.1;
         placed = subst⁻¹ Placed g.0 (placed_gap a.run.receiver);
@@ -84,7 +81,7 @@ returns c =
         count = omega arith;
         progress = omega arith;
       };
-      does = does_told a.said a.«data».now a.run a.room.now a.out.now _ a.room.now a.out.now (λ n e. let j = rw e at k in
-          ⊎_elim (λ z. omega (arith, z)) (⊎_elim (λ z. omega (arith, z)) (⊎_elim (λ z. omega (arith, z)) (⊎_elim (λ z. omega (arith, z)) (λ z. omega (arith, z))))) j)
+      does =
+          does_told a.said a.«data».now a.run a.room.now a.out.now _ a.room.now a.out.now c.in_default.not-Packet
           (record { receiver = g.0; room = refl; out = refl; at = refl; from = refl; done = refl });
     }

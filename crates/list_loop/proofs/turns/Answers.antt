@@ -1,12 +1,8 @@
 -- `list_loop::turns` holds the lines of the records taken, and ends: each record that is turned moves on in the input block or fills the output
 -- block, and the TPs taken in tracks before it give nothing back.
 -- Assumes nothing.
-use Prim.Native.Nat.{◌+◌, ◌-◌}
-use mathlib.Core.Path.{◌≡◌, refl, sym, ◌∙◌}
+use mathlib.Core.Path.{refl, sym, ◌∙◌}
 use native.Mathlib.Omega.{arith}
-use borrow.Author.Rules.{rules}
-use lib.ListN.{length}
-use Rattle.list_loop.specs.Running.{Ahead, Listed}
 use Rattle.console.proofs.Onward.{data_within}
 use Rattle.list_loop.proofs.Lists.{ahead_on, listed_more, listed_none, listed_on, listed_then}
 use Rattle.list_loop.proofs.turns.Goals as goal
@@ -32,23 +28,11 @@ slice_bounds-unread-start c = omega (arith, c.pass_all-run.ensures.ahead.end, c.
 pub slice_bounds-unread-end : goal.slice_bounds-unread-end
 slice_bounds-unread-end c = omega (arith, c.pass_all-run.ensures.ahead.end, c.requires.0.end)
 
-pub shape_of-room-in_default : goal.shape_of-room-in_default
-shape_of-room-in_default c = c.room-1.given ∙ c.loop-run.invariant.1.0
-
-pub shape_of-out-in_default : goal.shape_of-out-in_default
-shape_of-out-in_default c = c.out-1.given ∙ c.loop-run.invariant.1.1.0
-
 pub returns-in_default : goal.returns-in_default
 returns-in_default c =
     let i = c.loop-run.invariant in
     let r = c.pass_all-run.ensures in
     record { ahead = ahead_on i.0 r.ahead; listed = listed_on _ _ _ _ _ _ _ _ i.1.1.1 _ _ _ r.listed }
-
-pub shape_of-room-then-run-ge-FULL : goal.shape_of-room-then-run-ge-FULL
-shape_of-room-then-run-ge-FULL c = c.room-1.given ∙ c.loop-run.invariant.1.0
-
-pub shape_of-out-then-run-ge-FULL : goal.shape_of-out-then-run-ge-FULL
-shape_of-out-then-run-ge-FULL c = c.out-1.given ∙ c.loop-run.invariant.1.1.0
 
 pub returns-then-run-ge-FULL : goal.returns-then-run-ge-FULL
 returns-then-run-ge-FULL c =
@@ -67,7 +51,7 @@ turn-run-requires c =
       able = r.able;
       placed = r.placed;
       ten = r.ten;
-      room = omega (arith, p.room, i.1.1.0, c.out-1.given);
+      room = omega (arith, p.room, i.1.1.0);
       held = omega (arith, c.if-run-ge-FULL.false);
       count = omega (arith, p.count, p.end, p.size, i.0.count, r.count, r.end);
       end = omega (arith, w, p.end, p.size);
@@ -93,7 +77,7 @@ loop-run-preserved c =
     let tp = c.data_of.ensures in
     let w = data_within _ c.args.block.now _ q.result.from c.args.till _ r.end whole tp in
     let l = listed_on _ _ _ _ _ _ _ _ i.1.1.1 _ _ _ q.ensures.listed in
-    (record { able = o.onward.able; placed = o.onward.placed; ten = o.onward.ten; from = omega (arith, r.from, o.onward.from); end = omega (arith, w, o.onward.end); count = omega (arith, r.count, o.onward.count) }, (c.room-in-loop-run-1.given ∙ c.room-1.given ∙ i.1.0, (c.out-in-loop-run-1.given ∙ c.out-1.given ∙ i.1.1.0, listed_then _ _ _ _ _ _ _ _ l _ _ _ _ _ whole tp o.does)))
+    (record { able = o.onward.able; placed = o.onward.placed; ten = o.onward.ten; from = omega (arith, r.from, o.onward.from); end = omega (arith, w, o.onward.end); count = omega (arith, r.count, o.onward.count) }, (omega (arith, i.1.0), (omega (arith, i.1.1.0), listed_then _ _ _ _ _ _ _ _ l _ _ _ _ _ whole tp o.does)))
 
 pub returns : goal.returns
 returns c = let i = c.loop-run.invariant in record { ahead = i.0; listed = i.1.1.1 }

@@ -2,13 +2,9 @@
 -- block, and the TPs taken in tracks before it give nothing back.
 -- Assumes nothing.
 use Prim.Native.Nat.{◌+◌, ◌-◌}
-use mathlib.Core.Path.{◌≡◌, refl, sym, ◌∙◌}
-use native.Mathlib.Omega.{arith}
-use borrow.Author.Rules.{rules}
+use mathlib.Core.Path.{◌≡◌}
 use lib.ListN.{length}
 use Rattle.list_loop.specs.Running.{Ahead, Listed}
-use Rattle.console.proofs.Onward.{data_within}
-use Rattle.list_loop.proofs.Lists.{ahead_on, listed_more, listed_none, listed_on, listed_then}
 use Rattle.list_loop.proofs.turns.Given as goal
 
 abbrev pub invariant-loop-run : goal.invariant-loop-run

@@ -1,7 +1,7 @@
 -- `list_loop::lanes::ordinary` meets its contract: what is met first leads on by its call, or is left.
 -- Assumes nothing.
 use Rattle.list_loop.proofs.Leading.{off_led, on_led, onto_asks, onto_sort, over_led}
-use borrow.Author.Rules.{rules}
+use native.Mathlib.Omega.{arith}
 use Rattle.list_loop.proofs.lanes.ordinary.Goals as goal
 
 pub set_out-o-requires : goal.set_out-o-requires
@@ -30,4 +30,4 @@ returns c =
     let sort = onto_sort w.result w.ensures.sort c.if-o-eq-OFF.false c.if-o-eq-OVER.false in
     let x = onto_asks w.result _ _ _ _ _ _ w.ensures sort p.le_here.3 in
     let r = c.run_on in
-    record { steady = r.ensures.steady; leads_by = on_led _ _ _ _ _ _ _ _ _ _ p.kept.0 w.result _ w.ensures p.le_here.0 p.le_here.2 r.result _ _ _ c.room-1.given x.1 sort r.ensures.runs_by }
+    record { steady = r.ensures.steady; leads_by = on_led _ _ _ _ _ _ _ _ _ _ p.kept.0 w.result _ w.ensures p.le_here.0 p.le_here.2 r.result _ _ _ (omega arith) x.1 sort r.ensures.runs_by }

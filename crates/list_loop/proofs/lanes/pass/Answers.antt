@@ -7,7 +7,6 @@ use Rattle.receiver.specs.declared.lane.Lane.TheVariants.{Lost, Idle}
 use Rattle.receiver.specs.Tracks.{FilledIf}
 use Rattle.receiver.proofs.Tracked.{lane_idle, lane_lost}
 use Rattle.list_loop.proofs.Passes.{passes_all, passes_over, passes_says, passes_told, says, steady_left, told_put}
-use borrow.Author.Rules.{rules}
 use Rattle.list_loop.proofs.lanes.pass.Goals as goal
 
 pub dropped-n-requires : goal.dropped-n-requires
@@ -70,4 +69,4 @@ returns c =
     let p = c.requires in
     let e = sym c.top.ensures ∙ c.in-Says.is in
     let r = c.payload in
-    record { steady = r.ensures.steady; passes_by = passes_says r.result a.t a.base a.stamp a.number a.tp.now a.room.now a.out.now a.at _ _ _ _ p.0 e (omega (arith, p.2, p.3)) c.out-2-1.given r.ensures.leaves_by }
+    record { steady = r.ensures.steady; passes_by = passes_says r.result a.t a.base a.stamp a.number a.tp.now a.room.now a.out.now a.at _ _ _ _ p.0 e (omega (arith, p.2, p.3)) (omega arith) r.ensures.leaves_by }

@@ -1,9 +1,8 @@
 -- `list_loop::lanes::pass_all` meets its contract: the receiver is its track's from TP to TP, the lines held are those of the TPs taken, and the
 -- loop ends: each TP done moves on in the input block.
 -- Assumes nothing.
-use Prim.Native.Nat.{ℕ, ◌-◌, ◌<◌}
+use Prim.Native.Nat.{ℕ, ◌<◌}
 use mathlib.Core.Path.{refl, ap, sym, subst⁻¹, ◌∙◌}
-use mathlib.Core.Logic.{⊎_elim}
 use native.Mathlib.Omega.{arith}
 use Rattle.console.proofs.Onward.{data_within}
 use Rattle.list_loop.proofs.Along.{Along, along_ahead, along_all, along_done, along_first, along_kempt, along_listed, along_same, pause_ahead, pause_listed}
@@ -11,33 +10,24 @@ use Rattle.list_loop.proofs.Lists.{listed_none}
 use Rattle.receiver.specs.Lanes.{in_lane}
 use Rattle.receiver.specs.Tracks.{Kempt, lane_in}
 use Rattle.receiver.specs.declared.Stage.{Stage}
-use borrow.Author.Rules.{rules}
-use Rattle.list_loop.proofs.lanes.pass_all.Reads as reads
-use Rattle.list_loop.proofs.lanes.pass_all.Lts as lts
-use Rattle.house.proofs.data_of.Reads as data-of-reads
-use Rattle.house.proofs.read_record.Reads as read-record-reads
-use Rattle.list_loop.proofs.lanes.pass.Reads as pass-reads
-use Rattle.list_loop.proofs.lanes.stage_of.Reads as stage-of-reads
-use Rattle.receiver.proofs.track.back.Reads as back-reads
-use Rattle.receiver.proofs.track.of.Reads as of-reads
-use Rattle.receiver.proofs.lane.count_of.Reads as count-of-reads
-use Rattle.receiver.proofs.lane.room_of.Reads as room-of-reads
-use Rattle.receiver.proofs.lane.counted.Reads as counted-reads
 use Rattle.list_loop.proofs.lanes.pass_all.Goals as goal
+use Rattle.list_loop.proofs.lanes.pass_all.Goals.{Left-loop-at, else-loop-at-test, then-loop-at-test+in_default, then-loop-at-test+in-Whole+in_default-said, then-loop-at-test+in-Whole+in-Packet+then-p-eq-ALL}
 
 -- behind the loop, however it was left
-abbrev Out : Type 0
-Out = lts.Left-loop (of-reads.Asked, of-reads.Learnt, room-of-reads.Asked, room-of-reads.Learnt, count-of-reads.Asked, count-of-reads.Learnt, read-record-reads.Asked, read-record-reads.Learnt, data-of-reads.Asked, data-of-reads.Learnt, counted-reads.Asked, counted-reads.Learnt, pass-reads.Asked, pass-reads.Learnt, stage-of-reads.Asked, stage-of-reads.Learnt, back-reads.Asked, back-reads.Learnt) reads.Pre reads.Post invariant-loop decreases-loop
-
-along-out : (c : Out) → Along c.before.before.before.before.before.before.before.before.before.before.before.before.before.args.till c.before.before.before.before.before.before.before.before.before.before.before.before.before.args.block.now c.before.before.before.before.before.before.before.before.before.before.before.before.before.args.first c.before.before.before.before.before.before.before.before.before.before.before.before.before.args.room.now c.before.before.before.before.before.before.before.before.before.before.before.before.before.args.out.now c.before.loop.count c.loop-test.t c.before.loop.done c.loop-test.ten c.loop-test.at c.before.loop.from c.loop-test.room c.loop-test.out
+along-out : (c : Left-loop-at)
+    → (let a = c.args in let o = c.loop-at-test in Along a.till a.block.now a.first a.room.now a.out.now c.loop-at.count o.t c.loop-at.done o.ten o.at c.loop-at.from o.room o.out)
 along-out c =
-    let l = c.before.loop in
-    let o = c.loop-test in
-    ⊎_elim (λ w. along_same _ _ _ _ _ _ _ _ _ _ _ _ _ l.invariant _ _ _ _ _ w.1 w.2 w.3 w.4 w.5)
-    (⊎_elim (λ w. along_same _ _ _ _ _ _ _ _ _ _ _ _ _ l.invariant _ _ _ _ _ w.4 w.5 w.6 w.7 w.8)
-    (⊎_elim (λ w. along_same _ _ _ _ _ _ _ _ _ _ _ _ _ l.invariant _ _ _ _ _ w.7 w.8 w.9 w.10 w.11)
-    (λ w. along_same _ _ _ _ _ _ _ _ _ _ _ _ _ (along_all _ _ _ _ _ l.count l.t _ _ _ _ _ _ l.invariant w.12.result _ _ _ _ _ w.12.ensures.0 w.12.ensures.1 refl w.9.ensures w.20.taken) _ _ _ _ _ w.21 w.22 w.23 w.24 w.25)))
-    o.branch
+    let l = c.loop-at in
+    elim c.loop-at-test.branch [
+      | else-loop-at-test w ↦ along_same _ _ _ _ _ _ _ _ _ _ _ _ _ l.invariant _ _ _ _ _ w.room-is w.out-is w.t-is w.ten-is w.at-is
+      | then-loop-at-test+in_default w ↦ along_same _ _ _ _ _ _ _ _ _ _ _ _ _ l.invariant _ _ _ _ _ w.room-is w.out-is w.t-is w.ten-is w.at-is
+      | then-loop-at-test+in-Whole+in_default-said w ↦ along_same _ _ _ _ _ _ _ _ _ _ _ _ _ l.invariant _ _ _ _ _ w.room-is w.out-is w.t-is w.ten-is w.at-is
+      | then-loop-at-test+in-Whole+in-Packet+then-p-eq-ALL w ↦
+          let q = w.pass-p in
+          along_same _ _ _ _ _ _ _ _ _ _ _ _ _
+          (along_all _ _ _ _ _ l.count l.t _ _ _ _ _ _ l.invariant q.result _ _ _ _ _ q.ensures.steady q.ensures.passes_by refl w.counted-counted.ensures w.if-p-eq-ALL.true)
+          _ _ _ _ _ w.room-is w.out-is w.t-is w.ten-is w.at-is
+    ]
 
 pub of-t-requires : goal.of-t-requires
 of-t-requires c = let p = c.requires.0 in (p.able, p.placed)
@@ -78,12 +68,6 @@ back-requires c =
     let l = c.loop-at in
     let q = c.pass-p in
     along_kempt _ _ _ _ _ l.count l.t _ _ _ _ _ _ l.invariant q.result _ _ _ _ _ q.ensures.steady q.ensures.passes_by refl c.counted-counted.ensures
-
-pub shape_of-room-then-p-ne-DONE : goal.shape_of-room-then-p-ne-DONE
-shape_of-room-then-p-ne-DONE c = c.room-1.given ∙ c.loop-at.invariant.room
-
-pub shape_of-out-then-p-ne-DONE : goal.shape_of-out-then-p-ne-DONE
-shape_of-out-then-p-ne-DONE c = c.out-1.given ∙ c.loop-at.invariant.long
 
 pub returns-then-p-ne-DONE : goal.returns-then-p-ne-DONE
 returns-then-p-ne-DONE c =
@@ -127,18 +111,12 @@ loop-at-preserved c =
     let is = c.in-Packet.is in
     let tp = c.data_of-tp.ensures in
     let w = data_within _ c.args.block.now _ l.from c.args.till _ l.invariant.end whole tp in
-    along_done _ _ _ _ _ l.count l.t _ _ _ _ _ _ l.invariant q.result _ _ _ _ _ q.ensures.steady q.ensures.passes_by refl c.counted-counted.ensures _ _ whole is tp (omega (arith, c.if-p-ne-DONE.false)) w c.room-1.given c.out-1.given
+    along_done _ _ _ _ _ l.count l.t _ _ _ _ _ _ l.invariant q.result _ _ _ _ _ q.ensures.steady q.ensures.passes_by refl c.counted-counted.ensures _ _ whole is tp (omega (arith, c.if-p-ne-DONE.false)) w (omega arith) (omega arith)
 
 pub back-requires-2 : goal.back-requires-2
-back-requires-2 c = (along-out c).kempt
-
-pub shape_of-room : goal.shape_of-room
-shape_of-room c = (along-out c).room
-
-pub shape_of-out : goal.shape_of-out
-shape_of-out c = (along-out c).long
+back-requires-2 c = (along-out (goal.at.back-requires-2 c).Left-loop-at).kempt
 
 pub returns : goal.returns
 returns c =
-    let a = along-out c in
+    let a = along-out (goal.at.returns c).Left-loop-at in
     record { ahead = along_ahead _ _ _ _ _ _ _ _ _ _ _ _ _ a c.requires.0.able _ c.back-2.ensures; listed = along_listed _ _ _ _ _ _ _ _ _ _ _ _ _ a c.requires.0.able _ c.back-2.ensures }
