@@ -2,6 +2,7 @@
 use files::Got;
 use house::{AtHand, Place};
 use index_loop::Stop;
+use std::fs::File;
 
 // How far the heads led, and whether they led to the record.
 #[derive(Clone, Copy)]
@@ -12,11 +13,11 @@ pub struct Reached {
 }
 
 // One head further. What follows a record's head is not looked at: a record that the file's end cuts leads to no head.
-fn step(fd: i32, at: Reached) -> Reached {
+fn step(file: &File, at: Reached) -> Reached {
     let record = at.record;
     let byte = at.byte;
     let mut head = [0u8; 8];
-    let Got::Bytes(n) = files::read_at(fd, byte, &mut head) else {
+    let Got::Bytes(n) = files::read_at(file, byte, &mut head) else {
         return Reached {
             record,
             byte,
@@ -46,7 +47,7 @@ fn step(fd: i32, at: Reached) -> Reached {
 }
 
 // To this record; the first is 1.
-pub fn walk(fd: i32, record: u64) -> Reached {
+pub fn walk(file: &File, record: u64) -> Reached {
     let mut at = Reached {
         record: 1,
         byte: 13,
@@ -54,7 +55,7 @@ pub fn walk(fd: i32, record: u64) -> Reached {
     };
     let mut left = record;
     while 1 < left {
-        at = step(fd, at);
+        at = step(file, at);
         let stop = at.stop;
         let Stop::More = stop else {
             return at;

@@ -13,6 +13,7 @@ use house::{Fault, Setup};
 use index_loop::{Stop, Task, Walk};
 use jumping::Wanted;
 use receiver::Opened;
+use std::fs::File;
 
 // What is asked for, if it is asked for rightly.
 #[derive(Clone, Copy)]
@@ -22,18 +23,19 @@ enum Asked {
 }
 
 // Says why there is no packet.
-fn tell(stop: Stop, begin: u64) {
+fn tell(rt: &HostRuntime, stop: Stop, begin: u64) {
     match stop {
         Stop::More => {}
-        Stop::End => console::say(b"c7at", b"no such packet\n"),
-        Stop::Bad(fault) => console::stop(b"c7at", begin, fault),
-        Stop::Unreadable => console::say(b"c7at", b"cannot read the recording\n"),
+        Stop::End => console::say(rt, b"c7at", b"no such packet\n"),
+        Stop::Bad(fault) => console::stop(rt, b"c7at", begin, fault),
+        Stop::Unreadable => console::say(rt, b"c7at", b"cannot read the recording\n"),
     }
 }
 
 // Takes many blocks after many blocks, up to the packet.
 fn seek(
-    recording: i32,
+    rt: &HostRuntime,
+    recording: &File,
     wanted: Wanted,
     first: Walk,
     block: &mut [u8],
@@ -47,49 +49,49 @@ fn seek(
     while 0 < left {
         walk = index_loop::advance(recording, Task::Seek(wanted), 1, walk, block, room, out);
         if 0 < walk.at {
-            console::flush(b"c7at", out, walk.at);
+            console::flush(rt, b"c7at", out, walk.at);
             return;
         }
         let stop = walk.stop;
         let Stop::More = stop else {
             let unread = walk.unread;
-            tell(stop, files::sum(unread.gone, unread.from as u64));
+            tell(rt, stop, files::sum(unread.gone, unread.from as u64));
             return;
         };
         left -= 1;
     }
 }
 
-fn from(recording: i32, setup: Setup, wanted: Wanted, record: u64, byte: u64) {
+fn from(rt: &HostRuntime, recording: &File, setup: Setup, wanted: Wanted, record: u64, byte: u64) {
     let mut room = [0u8; 32768];
     let Opened::Ready(receiver) = receiver::open(setup.tp, setup.stream, &room) else {
-        console::stop(b"c7at", 0, Fault::Limits);
+        console::stop(rt, b"c7at", 0, Fault::Limits);
         return;
     };
     let mut block = [0u8; 131072];
     let mut out = [0u8; 65536];
     let walk = index_loop::start(receiver, record, byte);
-    seek(recording, wanted, walk, &mut block, &mut room, &mut out);
+    seek(rt, recording, wanted, walk, &mut block, &mut room, &mut out);
 }
 
 // Finds the record, and starts there.
-fn jump(recording: i32, wanted: Wanted) {
+fn jump(rt: &HostRuntime, recording: &File, wanted: Wanted) {
     let mut head = [0u8; 13];
     let Got::Bytes(got) = files::read_at(recording, 0, &mut head) else {
-        console::say(b"c7at", b"cannot read the recording\n");
+        console::say(rt, b"c7at", b"cannot read the recording\n");
         return;
     };
     let n = queue::least(got, 13);
-    let Begun::Ready(setup) = files::setup_in(b"c7at", &head[0..n]) else {
+    let Begun::Ready(setup) = files::setup_in(rt, b"c7at", &head[0..n]) else {
         return;
     };
     let reached = heads::walk(recording, wanted.record);
     let stop = reached.stop;
     let Stop::More = stop else {
-        tell(stop, reached.byte);
+        tell(rt, stop, reached.byte);
         return;
     };
-    from(recording, setup, wanted, reached.record, reached.byte);
+    from(rt, recording, setup, wanted, reached.record, reached.byte);
 }
 
 fn is_low(word: &[u8]) -> bool {
@@ -109,15 +111,15 @@ fn is_ordinary(word: &[u8]) -> bool {
     digits::from_four(word[4], word[5], word[6], word[7]) == 0x6E617279
 }
 
-fn number_of(i: usize) -> Word {
-    let mut word = io::buffer();
-    let n = os::arg(i, &mut word);
+fn number_of(rt: &HostRuntime, i: usize) -> Word {
+    let mut word = [0u8; 4096];
+    let n = files::put_word(rt, i, &mut word);
     files::number_in(&word[..n])
 }
 
-fn sorted(record: u64, place: u64) -> Asked {
-    let mut word = io::buffer();
-    let n = os::arg(4, &mut word);
+fn sorted(rt: &HostRuntime, record: u64, place: u64) -> Asked {
+    let mut word = [0u8; 4096];
+    let n = files::put_word(rt, 4, &mut word);
     let sort = &word[..n];
     if is_low(sort) {
         return Asked::Packet(Wanted {
@@ -136,33 +138,33 @@ fn sorted(record: u64, place: u64) -> Asked {
     Asked::Wrongly
 }
 
-fn from_words() -> Asked {
-    if os::arg_count() != 5 {
+fn from_words(rt: &HostRuntime) -> Asked {
+    if !files::has_words(rt, 4) {
         return Asked::Wrongly;
     }
-    let Word::Number(record) = number_of(2) else {
+    let Word::Number(record) = number_of(rt, 2) else {
         return Asked::Wrongly;
     };
-    let Word::Number(place) = number_of(3) else {
+    let Word::Number(place) = number_of(rt, 3) else {
         return Asked::Wrongly;
     };
-    sorted(record, place)
+    sorted(rt, record, place)
 }
 
-fn main() {
-    let Asked::Packet(wanted) = from_words() else {
+fn main(rt: HostRuntime) {
+    let Asked::Packet(wanted) = from_words(&rt) else {
         console::say(
+            rt,
             b"c7at",
             b"asks for a recording, a record, a place, and low or ordinary\n",
         );
         return;
     };
-    let mut path = io::buffer();
-    let n = os::arg(1, &mut path);
-    let recording = os::open_read(&path[..n]);
-    if recording < 0 {
-        console::say(b"c7at", b"cannot open the recording\n");
+    let mut path = [0u8; 4096];
+    let n = files::put_word(&rt, 1, &mut path);
+    let Some(recording) = files::open(&rt, &path[..n]) else {
+        console::say(&rt, b"c7at", b"cannot open the recording\n");
         return;
-    }
-    jump(recording, wanted);
+    };
+    jump(&rt, &recording, wanted);
 }

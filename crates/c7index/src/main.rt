@@ -7,48 +7,47 @@ mod index;
 
 use files::{Begun, Got};
 use index::Opened;
+use std::fs::File;
 
 // Both files are open or can be made.
-fn between(recording: i32, path: &[u8]) {
+fn between(rt: &HostRuntime, recording: &File, path: &[u8]) {
     let mut head = [0u8; 13];
     let Got::Bytes(got) = files::read_at(recording, 0, &mut head) else {
-        console::say(b"c7index", b"cannot read the recording\n");
+        console::say(rt, b"c7index", b"cannot read the recording\n");
         return;
     };
     let n = queue::least(got, 13);
-    match index::open(recording, path) {
+    match index::open(rt, recording, path) {
         Opened::Refused => {}
         Opened::Missing => {
-            let Begun::Ready(setup) = files::setup_in(b"c7index", &head[0..n]) else {
+            let Begun::Ready(setup) = files::setup_in(rt, b"c7index", &head[0..n]) else {
                 return;
             };
-            let fd = index::make(path);
-            if 0 <= fd {
-                grow::from(recording, fd, setup, index::empty());
+            if let Some(beside) = index::make(rt, path) {
+                grow::from(rt, recording, &beside, setup, index::empty());
             }
         }
-        Opened::Ready(fd, top) => {
-            let Begun::Ready(setup) = files::setup_in(b"c7index", &head[0..n]) else {
+        Opened::Ready(beside, top) => {
+            let Begun::Ready(setup) = files::setup_in(rt, b"c7index", &head[0..n]) else {
                 return;
             };
-            grow::from(recording, fd, setup, top);
+            grow::from(rt, recording, &beside, setup, top);
         }
     }
 }
 
-fn main() {
-    if os::arg_count() != 3 {
-        console::say(b"c7index", b"asks for a recording and an index\n");
+fn main(rt: HostRuntime) {
+    if !files::has_words(&rt, 2) {
+        console::say(&rt, b"c7index", b"asks for a recording and an index\n");
         return;
     }
-    let mut path = io::buffer();
-    let n = os::arg(1, &mut path);
-    let recording = os::open_read(&path[..n]);
-    if recording < 0 {
-        console::say(b"c7index", b"cannot open the recording\n");
+    let mut path = [0u8; 4096];
+    let n = files::put_word(&rt, 1, &mut path);
+    let Some(recording) = files::open(&rt, &path[..n]) else {
+        console::say(&rt, b"c7index", b"cannot open the recording\n");
         return;
-    }
-    let mut beside = io::buffer();
-    let m = os::arg(2, &mut beside);
-    between(recording, &beside[..m]);
+    };
+    let mut beside = [0u8; 4096];
+    let m = files::put_word(&rt, 2, &mut beside);
+    between(&rt, &recording, &beside[..m]);
 }

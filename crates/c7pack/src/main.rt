@@ -1,6 +1,6 @@
 // The packing program (R-1 of document 02).
 #![tactic(auto)]
 
-fn main() {
-    pack_loop::from_input();
+fn main(rt: HostRuntime) {
+    pack_loop::from_input(&rt);
 }

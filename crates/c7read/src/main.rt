@@ -95,7 +95,7 @@ fn turns(first: Run, till: usize, block: &[u8], room: &mut [u8], out: &mut [u8])
 }
 
 // Takes block after block.
-fn blocks(first: Run, input: Unread, block: &mut [u8], room: &mut [u8], out: &mut [u8])
+fn blocks(rt: &HostRuntime, first: Run, input: Unread, block: &mut [u8], room: &mut [u8], out: &mut [u8])
     requires { Ready first input.till (length block.old) }
 {
     let mut run = first;
@@ -106,7 +106,7 @@ fn blocks(first: Run, input: Unread, block: &mut [u8], room: &mut [u8], out: &mu
         run = turns(run, till, block, room, out);
         let from = run.from;
         let unread = Unread { gone, from, till };
-        let More::Read(next) = console::go_on(b"c7read", Place::Listing, block, unread, out, run.at)
+        let More::Read(next) = console::go_on(rt, b"c7read", Place::Listing, block, unread, out, run.at)
         else {
             return;
         };
@@ -123,25 +123,25 @@ fn blocks(first: Run, input: Unread, block: &mut [u8], room: &mut [u8], out: &mu
 }
 
 // The setup record goes out as it was read; a record more always has room where less than FULL is held.
-fn read(setup: Setup, unread: Unread, block: &mut [u8])
+fn read(rt: &HostRuntime, setup: Setup, unread: Unread, block: &mut [u8])
     requires { (13 ≤ length block.old) × ((unread.from ≤ unread.till) × (unread.till ≤ length block.old)) }
 {
     let mut room = [0u8; 32768];
     let Opened::Ready(receiver) = receiver::open(setup.tp, setup.stream, &room) else {
-        console::stop(b"c7read", 0, Fault::Limits);
+        console::stop(rt, b"c7read", 0, Fault::Limits);
         return;
     };
     let mut out = [0u8; 131072];
     let at = block::put(&mut out, 0, &block[0..13]);
     let from = unread.from;
     let run = Run { receiver, at, from };
-    blocks(run, unread, block, &mut room, &mut out);
+    blocks(rt, run, unread, block, &mut room, &mut out);
 }
 
-fn main() {
+fn main(rt: HostRuntime) {
     let mut block = [0u8; 131072];
-    let Start::Ready(setup, unread) = console::first(b"c7read", &mut block) else {
+    let Start::Ready(setup, unread) = console::first(&rt, b"c7read", &mut block) else {
         return;
     };
-    read(setup, unread, &mut block);
+    read(&rt, setup, unread, &mut block);
 }

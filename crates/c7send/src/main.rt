@@ -1,6 +1,6 @@
 // The sending program (document 01, 'Records and programs'); its input here is example 6.
 #![tactic(auto)]
 
-fn main() {
-    send_loop::from_input();
+fn main(rt: HostRuntime) {
+    send_loop::from_input(&rt);
 }

@@ -81,6 +81,7 @@ fn with_limit(s: State, limit: usize) -> State
 
 // The calls on the sender; d and e bytes of the queues are lent.
 fn to_sender(
+    rt: &HostRuntime,
     s: State,
     entry: Entry,
     sp: &[u8],
@@ -100,6 +101,7 @@ fn to_sender(
         1 => {
             let stream = (entry.b % 256) as u8;
             sending::open(
+                rt,
                 s,
                 entry.a,
                 stream,
@@ -109,17 +111,24 @@ fn to_sender(
                 out,
             )
         }
-        2 => sending::offer_ordinary(s, content, sp, &low[0..e], &mut ordinary[0..d], out),
-        3 => sending::offer_low(s, content, sp, &mut low[0..e], &ordinary[0..d], out),
+        2 => sending::offer_ordinary(rt, s, content, sp, &low[0..e], &mut ordinary[0..d], out),
+        3 => sending::offer_low(rt, s, content, sp, &mut low[0..e], &ordinary[0..d], out),
         _ => {
             let a = least(entry.a, drawn.len());
-            sending::draw(s, &low[0..e], &ordinary[0..d], &mut drawn[0..a], out)
+            sending::draw(rt, s, &low[0..e], &ordinary[0..d], &mut drawn[0..a], out)
         }
     }
 }
 
 // The calls on the receiver; a bytes of the TP and c of the room are lent.
-fn to_receiver(s: State, entry: Entry, received: &[u8], room: &mut [u8], out: &mut [u8]) -> State
+fn to_receiver(
+    rt: &HostRuntime,
+    s: State,
+    entry: Entry,
+    received: &[u8],
+    room: &mut [u8],
+    out: &mut [u8],
+) -> State
     requires { Fine s }
     ensures { Fine result }
 {
@@ -129,13 +138,13 @@ fn to_receiver(s: State, entry: Entry, received: &[u8], room: &mut [u8], out: &m
     match op {
         5 => {
             let stream = (entry.b % 256) as u8;
-            receiving::open(s, entry.a, stream, &room[0..c], out)
+            receiving::open(rt, s, entry.a, stream, &room[0..c], out)
         }
-        7 => receiving::gap(s, out),
-        11 => receiving::all(s, &received[0..a], false, &mut room[0..c], out),
-        13 => receiving::all(s, &received[0..a], true, &mut room[0..c], out),
+        7 => receiving::gap(rt, s, out),
+        11 => receiving::all(rt, s, &received[0..a], false, &mut room[0..c], out),
+        13 => receiving::all(rt, s, &received[0..a], true, &mut room[0..c], out),
         _ => {
-            let asked = receiving::next(s, &received[0..a], op == 12, &mut room[0..c], out);
+            let asked = receiving::next(rt, s, &received[0..a], op == 12, &mut room[0..c], out);
             let state = asked.state;
             state
         }
@@ -178,6 +187,7 @@ fn write_to(
 }
 
 fn call(
+    rt: &HostRuntime,
     s: State,
     entry: Entry,
     sp: &[u8],
@@ -193,7 +203,7 @@ fn call(
 {
     let op = entry.op;
     if op < 5 {
-        return to_sender(s, entry, sp, ordinary, low, drawn, out);
+        return to_sender(rt, s, entry, sp, ordinary, low, drawn, out);
     }
     match op {
         8 => {
@@ -205,12 +215,13 @@ fn call(
             named(s, out, b"hand\n")
         }
         10 => named(with_limit(s, entry.a), out, b"limit\n"),
-        _ => to_receiver(s, entry, received, room, out),
+        _ => to_receiver(rt, s, entry, received, room, out),
     }
 }
 
 // One entry of the list; one that is cut short, or that the list cannot have, ends it.
 fn turn(
+    rt: &HostRuntime,
     s: State,
     ordinary: &mut [u8],
     low: &mut [u8],
@@ -224,7 +235,7 @@ fn turn(
     ensures { Goes result }
 {
     let mut head = [0u8; 25];
-    if io::read_full(0, &mut head) < 25 {
+    if streams::read_full(rt, &mut head) < 25 {
         return Next::Stop(s.at);
     }
     let entry = entry_of(&head);
@@ -238,10 +249,11 @@ fn turn(
     if buf.len() < n {
         return Next::Stop(s.at);
     }
-    if io::read_full(0, &mut buf[0..n]) < n {
+    if streams::read_full(rt, &mut buf[0..n]) < n {
         return Next::Stop(s.at);
     }
     Next::Go(call(
+        rt,
         s,
         entry,
         &buf[0..n],
@@ -254,11 +266,12 @@ fn turn(
     ))
 }
 
-fn finish(out: &[u8], at: usize) {
-    console::flush(b"calls", out, at);
+fn finish(rt: &HostRuntime, out: &[u8], at: usize) {
+    console::flush(rt, b"calls", out, at);
 }
 
 fn turns(
+    rt: &HostRuntime,
     first: State,
     ordinary: &mut [u8],
     low: &mut [u8],
@@ -273,9 +286,9 @@ fn turns(
     let mut s = first;
     let mut left = LAST;
     while left > 0 {
-        match turn(s, ordinary, low, room, drawn, received, buf, out) {
+        match turn(rt, s, ordinary, low, room, drawn, received, buf, out) {
             Next::Stop(at) => {
-                finish(out, at);
+                finish(rt, out, at);
                 return;
             }
             Next::Go(next) => s = next,
@@ -284,7 +297,7 @@ fn turns(
     }
 }
 
-fn main() {
+fn main(rt: HostRuntime) {
     let mut ordinary = [0u8; 1048580];
     let mut low = [0u8; 1048580];
     let mut room = [0u8; 131080];
@@ -305,6 +318,7 @@ fn main() {
         at: 0,
     };
     turns(
+        rt,
         s,
         &mut ordinary,
         &mut low,

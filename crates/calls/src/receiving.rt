@@ -30,23 +30,30 @@ fn with_receiver(s: State, receiver: Receiver, at: usize) -> State
     }
 }
 
-fn put_opening(out: &mut [u8], at: usize, number: u64, room: &[u8], limit: usize) -> usize {
-    let mut next = block::put(out, freed(out, at), b"receiver ");
+fn put_opening(
+    rt: &HostRuntime,
+    out: &mut [u8],
+    at: usize,
+    number: u64,
+    room: &[u8],
+    limit: usize,
+) -> usize {
+    let mut next = block::put(out, freed(rt, out, at), b"receiver ");
     next = block::put_number(out, next, number);
     next = put_digest(out, next, room, limit);
     block::put(out, next, b"\n")
 }
 
-pub fn open(s: State, tp: usize, stream: u8, room: &[u8], out: &mut [u8]) -> State
+pub fn open(rt: &HostRuntime, s: State, tp: usize, stream: u8, room: &[u8], out: &mut [u8]) -> State
     requires { Fine s }
     ensures { Fine result }
 {
     let Opened::Ready(r) = receiver::open(tp, stream, room) else {
         let receiver = s.receiver;
-        let at = put_opening(out, s.at, 1, room, s.limit);
+        let at = put_opening(rt, out, s.at, 1, room, s.limit);
         return with_receiver(s, receiver, at);
     };
-    let at = put_opening(out, s.at, 0, room, s.limit);
+    let at = put_opening(rt, out, s.at, 0, room, s.limit);
     with_receiver(s, r, at)
 }
 
@@ -58,7 +65,7 @@ fn put_next<'a>(
     room: &'a [u8],
     limit: usize,
 ) -> usize {
-    let mut next = block::put(out, freed(out, at), b"next ");
+    let mut next = block::put(out, freed(rt, out, at), b"next ");
     next = put_find(out, next, find, receiver::found(tp, room, find));
     next = put_digest(out, next, tp, tp.len());
     next = put_digest(out, next, room, limit);
@@ -66,9 +73,9 @@ fn put_next<'a>(
 }
 
 // What a find carries: the TP number and the place at which it began, and the total repaired.
-fn put_about(out: &mut [u8], at: usize, about: About) -> usize {
+fn put_about(rt: &HostRuntime, out: &mut [u8], at: usize, about: About) -> usize {
     let place = about.at;
-    let mut next = block::put(out, freed(out, at), b"about ");
+    let mut next = block::put(out, freed(rt, out, at), b"about ");
     next = block::put_number(out, next, place.stamp.number);
     next = block::put(out, next, b" ");
     next = block::put_number(out, next, place.at as u64);
@@ -89,14 +96,21 @@ fn put_step<'a>(
 ) -> usize {
     let find = step.find;
     let about = step.about;
-    let next = put_next(out, at, find, tp, room, limit);
+    let next = put_next(rt, out, at, find, tp, room, limit);
     if more {
-        return put_about(out, next, about);
+        return put_about(rt, out, next, about);
     }
     next
 }
 
-pub fn next(s: State, tp: &[u8], more: bool, room: &mut [u8], out: &mut [u8]) -> Asked
+pub fn next(
+    rt: &HostRuntime,
+    s: State,
+    tp: &[u8],
+    more: bool,
+    room: &mut [u8],
+    out: &mut [u8],
+) -> Asked
     requires { Fine s }
     ensures { Fine result.state }
 {
@@ -104,21 +118,28 @@ pub fn next(s: State, tp: &[u8], more: bool, room: &mut [u8], out: &mut [u8]) ->
     let step = receiver::next(before, tp, room);
     let find = step.find;
     let receiver = step.receiver;
-    let at = put_step(out, s.at, step, more, tp, room, s.limit);
+    let at = put_step(rt, out, s.at, step, more, tp, room, s.limit);
     Asked {
         state: with_receiver(s, receiver, at),
         goes_on: receiver::lasts(find),
     }
 }
 
-pub fn all(first: State, tp: &[u8], more: bool, room: &mut [u8], out: &mut [u8]) -> State
+pub fn all(
+    rt: &HostRuntime,
+    first: State,
+    tp: &[u8],
+    more: bool,
+    room: &mut [u8],
+    out: &mut [u8],
+) -> State
     requires { Fine first }
     ensures { Fine result }
 {
     let mut s = first;
     let mut left = LAST;
     while left > 0 {
-        let asked = next(s, tp, more, room, out);
+        let asked = next(rt, s, tp, more, room, out);
         s = asked.state;
         if !asked.goes_on {
             return s;
@@ -128,11 +149,11 @@ pub fn all(first: State, tp: &[u8], more: bool, room: &mut [u8], out: &mut [u8])
     s
 }
 
-pub fn gap(s: State, out: &mut [u8]) -> State
+pub fn gap(rt: &HostRuntime, s: State, out: &mut [u8]) -> State
     requires { Fine s }
     ensures { Fine result }
 {
     let before = s.receiver;
-    let at = block::put(out, freed(out, s.at), b"gap\n");
+    let at = block::put(out, freed(rt, out, s.at), b"gap\n");
     with_receiver(s, receiver::gap(before), at)
 }

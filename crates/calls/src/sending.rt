@@ -30,6 +30,7 @@ fn put_answer(out: &mut [u8], at: usize, a: Answer) -> usize {
 
 // A line of a call that writes no TP.
 fn put_line(
+    rt: &HostRuntime,
     out: &mut [u8],
     at: usize,
     name: &[u8],
@@ -38,12 +39,13 @@ fn put_line(
     ordinary: &[u8],
     limit: usize,
 ) -> usize {
-    let mut next = block::put(out, freed(out, at), name);
+    let mut next = block::put(out, freed(rt, out, at), name);
     next = put_answer(out, next, a);
     put_queues(out, next, ordinary, low, limit)
 }
 
 fn put_draw(
+    rt: &HostRuntime,
     out: &mut [u8],
     at: usize,
     a: Answer,
@@ -52,7 +54,7 @@ fn put_draw(
     ordinary: &[u8],
     limit: usize,
 ) -> usize {
-    let mut next = block::put(out, freed(out, at), b"draw ");
+    let mut next = block::put(out, freed(rt, out, at), b"draw ");
     next = put_answer(out, next, a);
     next = put_digest(out, next, tp, tp.len());
     put_queues(out, next, ordinary, low, limit)
@@ -74,6 +76,7 @@ fn after(s: State, a: Answer, at: usize) -> State
 }
 
 pub fn open(
+    rt: &HostRuntime,
     s: State,
     tp: usize,
     stream: u8,
@@ -86,11 +89,12 @@ pub fn open(
     ensures { Fine result }
 {
     let a = sender::open(tp, stream, piece, low, ordinary);
-    let at = put_line(out, s.at, b"sender ", a, low, ordinary, s.limit);
+    let at = put_line(rt, out, s.at, b"sender ", a, low, ordinary, s.limit);
     after(s, a, at)
 }
 
 pub fn offer_ordinary(
+    rt: &HostRuntime,
     s: State,
     content: u8,
     sp: &[u8],
@@ -103,11 +107,12 @@ pub fn offer_ordinary(
 {
     let sender = s.sender;
     let a = sender::offer_ordinary(sender, low, ordinary, content, sp);
-    let at = put_line(out, s.at, b"ordinary ", a, low, ordinary, s.limit);
+    let at = put_line(rt, out, s.at, b"ordinary ", a, low, ordinary, s.limit);
     after(s, a, at)
 }
 
 pub fn offer_low(
+    rt: &HostRuntime,
     s: State,
     content: u8,
     sp: &[u8],
@@ -120,16 +125,23 @@ pub fn offer_low(
 {
     let sender = s.sender;
     let a = sender::offer_low(sender, low, ordinary, content, sp);
-    let at = put_line(out, s.at, b"low ", a, low, ordinary, s.limit);
+    let at = put_line(rt, out, s.at, b"low ", a, low, ordinary, s.limit);
     after(s, a, at)
 }
 
-pub fn draw(s: State, low: &[u8], ordinary: &[u8], tp: &mut [u8], out: &mut [u8]) -> State
+pub fn draw(
+    rt: &HostRuntime,
+    s: State,
+    low: &[u8],
+    ordinary: &[u8],
+    tp: &mut [u8],
+    out: &mut [u8],
+) -> State
     requires { Fine s }
     ensures { Fine result }
 {
     let sender = s.sender;
     let a = sender::draw(sender, low, ordinary, tp);
-    let at = put_draw(out, s.at, a, tp, low, ordinary, s.limit);
+    let at = put_draw(rt, out, s.at, a, tp, low, ordinary, s.limit);
     after(s, a, at)
 }

@@ -61,10 +61,10 @@ pub fn put_find(out: &mut [u8], at: usize, find: Find, stretch: &[u8]) -> usize 
 }
 
 // Room for a line.
-pub fn freed(out: &[u8], at: usize) -> usize {
+pub fn freed(rt: &HostRuntime, out: &[u8], at: usize) -> usize {
     if at < FULL {
         return at;
     }
-    console::flush(b"calls", out, at);
+    console::flush(rt, b"calls", out, at);
     0
 }

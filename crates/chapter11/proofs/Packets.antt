@@ -1,8 +1,8 @@
 -- What is known of a packet: the facts behind its test, the bounds of its parts, and its numbers as bytes. Assumes nothing.
-use Rattle.std.proofs.Common.{◌≡◌, ℕ, suc, ◌+◌, ◌-◌, ◌*◌, ◌/◌, ◌%◌, ◌^◌, ◌<◌, ◌≤◌, Bool, true, false, cond, ◌&&◌, eqb, leb, List, [], ◌∷◌, ◌++◌, length, get_or, take, drop, sym, refl, ap, ◌∙◌, add-one, arith, drop_of_length-le, drop-cons, eq-eqb, ne_eqb, eqb-true, le-leb, leb-true}
+use Rattle.std.proofs.Common.{◌≡◌, ℕ, suc, ◌+◌, ◌-◌, ◌*◌, ◌%◌, ◌^◌, ◌<◌, ◌≤◌, Bool, true, false, cond, ◌&&◌, eqb, leb, List, length, get_or, drop, sym, ap, ◌∙◌, add-one, arith, drop_of_length-le, drop-cons, eq-eqb, ne_eqb, eqb-true, le-leb, leb-true}
 use borrow.Author.Tests.{lt-leb}
 use Rattle.queue.proofs.Puts.{and_left, and_right}
-use Rattle.chapter11.specs.Packet.{two_at, two, sync, packet_length, checksum, sum_size_by, sum_size, sum_of, header_sum, data_end, together, is_packet, all_zero, new_length, cut_in}
+use Rattle.chapter11.specs.Packet.{two_at, sync, packet_length, checksum, sum_size_by, sum_size, sum_of, header_sum, data_end, together, is_packet, all_zero, new_length, cut_in}
 use Rattle.chapter11.specs.declared.packet.Cut.{Cut}
 
 pub record Is (p : List ℕ) : Type 0 where

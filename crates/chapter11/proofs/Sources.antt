@@ -14,12 +14,11 @@ use Rattle.chapter11.specs.declared.Answer.TheVariants.{Done, Refused}
 use Rattle.chapter11.specs.declared.Fields.{Fields}
 use Rattle.chapter11.specs.declared.Number.{Number}
 use Rattle.chapter11.specs.declared.Number.TheVariants as N
-use Rattle.chapter11.specs.declared.Read.{Read}
 use Rattle.chapter11.specs.declared.Read.TheVariants as R
 use Rattle.chapter11.specs.declared.packet.Cut.{Cut}
 use Rattle.chapter11.specs.Packet.{two, four, channel, data_length, header_sum, is_packet, cut, all_zero, new_length, cut_in, header_for, new_header, rest, cut_from, cut_till}
-use Rattle.chapter11.specs.Source.{Left, Outcome, gives, refuses, left, trailer, fields_in, protected, source_packet, composed_of, word_at, number_at, said_of, fields_from, fields_of, read_of, packet_of, reassembled_of}
-use Rattle.chapter11.proofs.Packets.{Is, is, within}
+use Rattle.chapter11.specs.Source.{Left, gives, left, trailer, fields_in, protected, source_packet, composed_of, word_at, number_at, said_of, fields_from, fields_of, read_of, packet_of, reassembled_of}
+use Rattle.chapter11.proofs.Packets.{Is, is}
 
 -- ---- the words
 

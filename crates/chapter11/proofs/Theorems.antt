@@ -1,9 +1,9 @@
 -- Reassembling what was composed gives the packet with its fill cut, also with up to three flips in each Golay word; and
 -- where less than four bytes of fill stand, that is the packet itself. Assumes nothing.
-use Rattle.std.proofs.Common.{◌≡◌, ℕ, zero, suc, ◌+◌, ◌-◌, ◌*◌, ◌/◌, ◌%◌, ◌<◌, ◌≤◌, Bool, true, false, cond, eqb, leb, List, [], ◌∷◌, ◌++◌, length, get_or, take, drop, sym, refl, ap, ◌∙◌, subst, ap₂, append_assoc, mod-eq_of_lt, lt_of_not-le, add-one, arith, lit<, lit≤, length-append, length-drop, take-append-drop, length-take, length-take-le, get_or-drop, drop-cons, get_or-take, take-take, drop-drop, take_at, take-add, drop_at, eq-eqb, le-leb, leb-true}
+use Rattle.std.proofs.Common.{◌≡◌, ℕ, zero, suc, ◌+◌, ◌-◌, ◌*◌, ◌/◌, ◌%◌, ◌<◌, ◌≤◌, Bool, true, false, cond, eqb, leb, List, [], ◌∷◌, ◌++◌, length, get_or, take, drop, sym, refl, ap, ◌∙◌, subst, ap₂, append_assoc, mod-eq_of_lt, lt_of_not-le, arith, lit<, lit≤, length-append, length-drop, take-append-drop, length-take, length-take-le, get_or-drop, drop-cons, get_or-take, take-take, drop-drop, take-add, drop_at, eq-eqb, le-leb, leb-true}
 use mathlib.Core.Option.{Option, none, some}
 use native.Mathlib.Decide.{dec_le}
-use lib.Bits.{bit_xor, xor_self}
+use lib.Bits.{xor_self}
 use lib.Count.{ones_in}
 use lib.ListN.{get_or-eq_default}
 use lib.Seq.{take-append-le, take-append-add}
@@ -14,8 +14,8 @@ use Rattle.golay.specs.Golay.{code_word, distance, weight}
 use Rattle.wire.specs.Wire.{word}
 use Rattle.wire.proofs.Laws.{word_length, word_number, number_back}
 use Rattle.chapter11.specs.declared.Fields.{Fields}
-use Rattle.chapter11.specs.Packet.{two_at, four_at, two, four, channel, packet_length, data_length, checksum, sum_of, header_sum, together, fill, is_packet, kept, cut_from, cut_till, cut, all_zero, new_length, header_for, new_header, rest, cut_fill}
-use Rattle.chapter11.specs.Source.{Outcome, gives, refuses, trailer, fields_in, protected, source_packet, composed_of, word_at, number_at, fields_from, fields_of, packet_of, packet_with, reassembled_of}
+use Rattle.chapter11.specs.Packet.{two_at, four_at, two, four, channel, data_length, sum_of, header_sum, fill, is_packet, cut_from, cut_till, cut, all_zero, new_length, header_for, new_header, rest, cut_fill}
+use Rattle.chapter11.specs.Source.{gives, refuses, trailer, fields_in, protected, source_packet, composed_of, word_at, number_at, fields_from, fields_of, packet_of, packet_with, reassembled_of}
 use Rattle.chapter11.proofs.Packets.{Is, is, sum_size_most}
 use Rattle.chapter11.proofs.Sources.{protected_length, source_length, packet_length_lem}
 

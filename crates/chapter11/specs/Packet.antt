@@ -1,6 +1,6 @@
 -- A Chapter 11 packet (R-1 of document 02; header layout, secondary header flag and checksum kind as in the Chapter 11 standard).
 -- Its header has 24 bytes, with numbers least significant byte first. Assumes nothing.
-use Rattle.std.specs.Prelude.{ℕ, zero, suc, ◌+◌, ◌-◌, ◌*◌, ◌/◌, ◌%◌, Bool, true, false, cond, ◌&&◌, List, [], ◌∷◌, ◌++◌, length, take, drop, ◌==◌, nat_le, slice_index}
+use Rattle.std.specs.Prelude.{ℕ, zero, suc, ◌+◌, ◌-◌, ◌*◌, ◌/◌, ◌%◌, Bool, true, cond, ◌&&◌, List, [], ◌∷◌, ◌++◌, length, take, drop, ◌==◌, nat_le, slice_index}
 use Rattle.block.specs.Block.{placed}
 use Rattle.chapter11.specs.declared.packet.Cut.{Cut}
 

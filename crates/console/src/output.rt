@@ -1,21 +1,27 @@
 // Blocks to standard output, and lines to standard error: the program's name, then what went wrong.
 use house::Fault;
-use libc::{STDERR_FILENO, STDOUT_FILENO};
 
-fn write_held(fd: i32, out: &[u8], at: usize) -> bool {
+fn print_held(rt: &HostRuntime, out: &[u8], at: usize) -> bool {
     if out.len() < at {
         return false;
     }
-    io::write_all(fd, &out[0..at])
+    streams::print(rt, &out[0..at])
+}
+
+fn say_held(rt: &HostRuntime, out: &[u8], at: usize) -> bool {
+    if out.len() < at {
+        return false;
+    }
+    streams::say(rt, &out[0..at])
 }
 
 // Says what stops the program where no record is to blame.
-pub fn say(program: &[u8], what: &[u8]) {
+pub fn say(rt: &HostRuntime, program: &[u8], what: &[u8]) {
     let mut line = [0u8; 128];
     let mut at = block::put(&mut line, 0, program);
     at = block::put(&mut line, at, b": ");
     at = block::put(&mut line, at, what);
-    write_held(STDERR_FILENO, &line, at);
+    say_held(rt, &line, at);
 }
 
 // The line's start: the program, and the byte at which a record begins.
@@ -38,28 +44,28 @@ fn put_fault(out: &mut [u8], at: usize, fault: Fault) -> usize {
 }
 
 // Says which number refused the record that begins at this byte; the program goes on.
-pub fn refusal(program: &[u8], begin: u64, number: u8) {
+pub fn refusal(rt: &HostRuntime, program: &[u8], begin: u64, number: u8) {
     let mut line = [0u8; 128];
     let mut at = put_begin(&mut line, program, begin);
     at = block::put(&mut line, at, b"refused ");
     at = block::put_number(&mut line, at, number as u64);
     at = block::put(&mut line, at, b"\n");
-    write_held(STDERR_FILENO, &line, at);
+    say_held(rt, &line, at);
 }
 
 // Says why the program stops: its name, the byte at which the record begins, what is wrong.
-pub fn stop(program: &[u8], begin: u64, fault: Fault) {
+pub fn stop(rt: &HostRuntime, program: &[u8], begin: u64, fault: Fault) {
     let mut line = [0u8; 128];
     let mut at = put_begin(&mut line, program, begin);
     at = put_fault(&mut line, at, fault);
-    write_held(STDERR_FILENO, &line, at);
+    say_held(rt, &line, at);
 }
 
 // Writes out what is held, and says so if it cannot.
-pub fn flush(program: &[u8], out: &[u8], at: usize) -> bool {
-    let is_written = write_held(STDOUT_FILENO, out, at);
+pub fn flush(rt: &HostRuntime, program: &[u8], out: &[u8], at: usize) -> bool {
+    let is_written = print_held(rt, out, at);
     if !is_written {
-        say(program, b"cannot write\n");
+        say(rt, program, b"cannot write\n");
     }
     is_written
 }

@@ -23,7 +23,6 @@ use Rattle.receiver.proofs.Listening as N
 use Rattle.downlink.specs.Hearing.{Listener, Called, onward, ends, Either, Calls, told_of_gap, Hears, Packet, in_tp, handed_out}
 use Rattle.downlink.specs.Hearing as H
 use Rattle.downlink.proofs.plain.Low as L
-use Rattle.downlink.proofs.plain.Join as J
 use Rattle.downlink.proofs.Strip.{finding}
 use Rattle.downlink.proofs.Joins.{packets, packets_append}
 use Rattle.downlink.proofs.Listen.{lows_of, lows_append}

@@ -1,6 +1,6 @@
 -- What the receiver makes of the damaged TPs of a run, one after the other: the low-latency packets that they carry, and what
 -- the window lemma says of the stretch of ordinary bytes that they carry. Assumes nothing.
-use Prim.Native.Nat.{ℕ, zero, suc, ◌+◌, ◌-◌, ◌≤◌}
+use Prim.Native.Nat.{ℕ, suc, ◌+◌, ◌≤◌}
 use mathlib.Core.Path.{◌≡◌, refl, sym, ap, ap₂, ◌∙◌}
 use mathlib.Core.Bool.{Bool, true, false, cond}
 use mathlib.Core.Option.{none, some}

@@ -1,7 +1,7 @@
 -- Reading bytes, from where a TP's ordinary bytes are set about: wherever a call stops, a receiver by value stands for it.
 -- Assumes nothing.
 use Prim.Native.Nat.{ℕ, zero, suc, ◌+◌, ◌-◌, ◌/◌, ◌%◌, ◌≤◌}
-use mathlib.Core.Path.{◌≡◌, refl, ap, subst, subst⁻¹}
+use mathlib.Core.Path.{◌≡◌, refl, ap, subst⁻¹}
 use mathlib.Core.Bool.{Bool, true, false, cond}
 use mathlib.Core.Option.{Option, none, some}
 use mathlib.Core.List.{List, [], ◌∷◌}
@@ -19,7 +19,7 @@ use Rattle.receiver.specs.declared.walk.Phase.TheVariants.{Lost, Head, Judged, B
 use Rattle.receiver.specs.Frame.{Frame, lost, lose, step}
 use Rattle.receiver.specs.Forecast.{Start, foretold, upon, resume, agree, judge, set_out, start, dropped, phase, outset}
 use Rattle.receiver.specs.Forecast as P
-use Rattle.receiver.specs.Join.{Finding, Held, held}
+use Rattle.receiver.specs.Join.{Finding, Held}
 use Rattle.receiver.specs.Low.{wire, ep_at}
 use Rattle.receiver.specs.Pull.{Met, dry, found, Pulled, upto, meet, reads, pull}
 use Rattle.receiver.specs.State.{headed, frame_of, todo_of, held_of, Fine, Roomy, Settled}

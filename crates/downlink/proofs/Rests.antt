@@ -20,7 +20,6 @@ use Rattle.receiver.specs.declared.walk.Kept.TheVariants.{Empty}
 use Rattle.receiver.specs.declared.walk.Phase.{Phase}
 use Rattle.receiver.specs.declared.walk.Phase.TheVariants.{Lost, Head, Judged, Body}
 use Rattle.receiver.specs.Frame.{Frame, lost, idle, head, body, Event, lose, entered, fed, within, ending, whole, step}
-use Rattle.receiver.specs.Forecast.{phase}
 use Rattle.receiver.specs.Join.{Finding, notice, low, ordinary, Held, free, held, Took, handed, finish, meets, goes_on, broken, fits, further, admit}
 use Rattle.receiver.specs.Turns.{kept_as}
 use Rattle.receiver.specs.Low.{Ep, begin_of, join_of, Tag, wire}

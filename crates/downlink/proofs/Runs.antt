@@ -12,7 +12,7 @@ use Rattle.sender.specs.declared.Sender.{Sender}
 use Rattle.sender.specs.Answers.{done}
 use Rattle.sender.specs.Offering.{want_ordinary, ordinary_offered, want_low, low_offered}
 use Rattle.sender.specs.Drawing as D
-use Rattle.sender.specs.Opening.{empty, fresh, opened}
+use Rattle.sender.specs.Opening.{empty, opened}
 use Rattle.sender.proofs.Opens.{opened_is}
 use Rattle.downlink.proofs.plain.Low.{wire}
 use Rattle.sender.specs.Run.{Call, ordinary, low, draw, lending, World, Deed, refused, took, took_low, drew, lent_others, own_lengths, next, deed, deeds, left, undrawn}

@@ -25,7 +25,6 @@ use Rattle.downlink.proofs.plain.Forecast.{Start, start, outset}
 use Rattle.downlink.proofs.plain.Join.{Finding, low}
 use Rattle.receiver.specs.Low.{ended, counting, sized, llep}
 use Rattle.downlink.proofs.plain.Low.{wire, begin_of, Part, ahead, walk, low_part}
-use Rattle.downlink.proofs.plain.Low as L
 use Rattle.downlink.proofs.plain.Tp.{Heard, low_part_if, behind, worded, heard}
 use Rattle.sender.specs.Run.{Tp}
 use Rattle.downlink.specs.Damage.{Near, NearEnd, LlepsNear, TpNear}

@@ -19,7 +19,7 @@ use Rattle.receiver.specs.Frame.{Frame, lost, idle, head, body, Event, lose, gap
 use Rattle.receiver.specs.Forecast as N
 use Rattle.receiver.specs.Forecast.{foretold, Start, upon, resume, agree, judge, start, read, Way, stays, drops, gaps, goes, by_way, way_at}
 use Rattle.receiver.specs.Join.{Finding, notice, low, ordinary, Held, free, held, Took, broken, goes_on, meets, grown, handed, finish, listed, fits, further, admit, take_in, holding, finds}
-use Rattle.receiver.specs.Low.{Ep, Tag, wire, ep_at, ep_if, tag_of, begin_of, join_of}
+use Rattle.receiver.specs.Low.{Ep, Tag, wire, ep_at, ep_if, begin_of, join_of}
 use Rattle.downlink.proofs.plain.Frame as F
 use Rattle.downlink.proofs.plain.Forecast as P
 use Rattle.downlink.proofs.plain.Join as J

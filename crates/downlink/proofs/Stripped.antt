@@ -18,8 +18,8 @@ use Rattle.receiver.specs.declared.low.Llep.{Llep}
 use Rattle.receiver.specs.declared.low.Llep.TheVariants.{Broken, Whole}
 use Rattle.receiver.specs.Place.{placed, place_at, start_of}
 use Rattle.receiver.specs.Kind.{kind_of}
-use Rattle.receiver.specs.Frame.{Frame, Event}
-use Rattle.receiver.specs.Join.{Finding, finds, holding}
+use Rattle.receiver.specs.Frame.{Frame}
+use Rattle.receiver.specs.Join.{Finding, finds}
 use Rattle.receiver.specs.Low.{wire, llep, given, Part, ahead, walked, walk, low_part}
 use Rattle.receiver.specs.Tp.{Setting, Heard, Input, tp_in, gap_told, behind, low_part_if, worded, refusing, dropping, brings, heard_by, heard, input_of, Stand, Listing, listing, listing_of, listing_all, stamping_of, count_after}
 use Rattle.downlink.proofs.plain.Frame as F
@@ -27,7 +27,7 @@ use Rattle.downlink.proofs.plain.Forecast as P
 use Rattle.downlink.proofs.plain.Join as J
 use Rattle.downlink.proofs.plain.Low as L
 use Rattle.downlink.proofs.plain.Tp as T
-use Rattle.downlink.proofs.Strip.{bytes, frame, event, finding, kept, read_on, bytes_placed, outset_is, holding_is, finds_is}
+use Rattle.downlink.proofs.Strip.{frame, event, finding, kept, read_on, bytes_placed, outset_is, holding_is, finds_is}
 
 -- ---- the low-latency part
 

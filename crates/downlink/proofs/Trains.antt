@@ -1,6 +1,6 @@
 -- A stream of readable EPs: what reading it brings to light, and that reading from between two EPs stays in step with it.
 -- Assumes nothing.
-use Prim.Native.Nat.{ℕ, zero, suc, ◌+◌}
+use Prim.Native.Nat.{ℕ, zero, suc}
 use mathlib.Core.Path.{◌≡◌, refl, sym, ap, ◌∙◌, subst⁻¹}
 use mathlib.Core.Bool.{true, false}
 use mathlib.Core.Option.{some}

@@ -6,6 +6,9 @@ ghost use Rattle.files.specs.Reading.{Within, Chosen, BeginsWith};
 ghost use Rattle.files.specs.Word.{number_on, word_of};
 
 use house::{AtHand, Fault, Place, Settings, Setup};
+use std::env::{Env, FillError};
+use std::fs::File;
+use std::os::unix::fs::FileExt;
 
 // How many bytes were read, if any could be.
 #[derive(Clone, Copy)]
@@ -39,45 +42,43 @@ pub fn sum(a: u64, b: u64) -> u64
 }
 
 // A byte's place as the system counts it.
-fn offset_of(n: u64) -> i64 {
+fn offset_of(n: u64) -> u64 {
     if 0x7FFFFFFFFFFFFFFF < n {
         return 0x7FFFFFFFFFFFFFFF;
     }
-    n as i64
+    n
 }
 
 // Reads from this byte on.
-pub fn read_at(fd: i32, offset: u64, buf: &mut [u8]) -> Got
+pub fn read_at(file: &File, offset: u64, buf: &mut [u8]) -> Got
     ensures { Within (length buf.new) result }
 {
-    let got = libc::pread(fd, buf, offset_of(offset));
-    if got < 0 {
-        return Got::Failed;
+    match file.read_at(buf, offset_of(offset)) {
+        Ok(n) => Got::Bytes(n),
+        Err(_) => Got::Failed,
     }
-    Got::Bytes(io::count(got, buf))
 }
 
 // Whether a file has at least so many bytes.
-pub fn reaches(fd: i32, size: u64) -> bool {
+pub fn reaches(file: &File, size: u64) -> bool {
     if size == 0 {
         return true;
     }
     let mut last = [0u8; 1];
-    let Got::Bytes(n) = read_at(fd, size - 1, &mut last) else {
+    let Got::Bytes(n) = read_at(file, size - 1, &mut last) else {
         return false;
     };
     n == 1
 }
 
 // Writes all of buf from this byte on, and answers whether it did.
-pub fn write_at(fd: i32, offset: u64, buf: &[u8]) -> bool {
+pub fn write_at(file: &File, offset: u64, buf: &[u8]) -> bool {
     let mut done = 0;
     while done < buf.len() {
         let rest = &buf[done..];
-        let put = io::count(
-            libc::pwrite(fd, rest, offset_of(sum(offset, done as u64))),
-            rest,
-        );
+        let Ok(put) = file.write_at(rest, offset_of(sum(offset, done as u64))) else {
+            return false;
+        };
         if put == 0 {
             return false;
         }
@@ -87,16 +88,39 @@ pub fn write_at(fd: i32, offset: u64, buf: &[u8]) -> bool {
 }
 
 // Cuts the file behind so many bytes.
-pub fn cut(fd: i32, size: u64) -> bool {
-    libc::ftruncate(fd, offset_of(size)) == 0
+pub fn cut(file: &File, size: u64) -> bool {
+    file.set_len(offset_of(size)).is_ok()
 }
 
-fn chosen(program: &[u8], data: &[u8]) -> Begun
+fn is_present(rt: &HostRuntime, i: usize) -> bool {
+    let mut word = [0u8; 1];
+    !matches!(rt.arg(i, &mut word), Err(FillError::NotPresent))
+}
+
+// Whether the program was started with so many words behind its name.
+pub fn has_words(rt: &HostRuntime, n: usize) -> bool {
+    is_present(rt, n) && !is_present(rt, n.saturating_add(1))
+}
+
+// Puts a word that the program was started with to the buffer's start, and answers its length; nothing where it has no room.
+pub fn put_word(rt: &HostRuntime, i: usize, buf: &mut [u8]) -> usize
+    ensures { result ≤ length buf.new }
+{
+    rt.arg(i, buf).unwrap_or(0)
+}
+
+// Opens the file of this name for reading.
+pub fn open(rt: &HostRuntime, path: &[u8]) -> Option<File> {
+    let text = str::from_utf8(path).ok()?;
+    File::open(rt, text).ok()
+}
+
+fn chosen(rt: &HostRuntime, program: &[u8], data: &[u8]) -> Begun
     ensures { Chosen «data».now result }
 {
     match house::read_setup(data) {
         Settings::Outside => {
-            console::stop(program, 0, Fault::Limits);
+            console::stop(rt, program, 0, Fault::Limits);
             Begun::End
         }
         Settings::Within(setup) => Begun::Ready(setup),
@@ -104,23 +128,23 @@ fn chosen(program: &[u8], data: &[u8]) -> Begun
 }
 
 // The settings of a recording that begins with these bytes; what is wrong with them is told.
-pub fn setup_in(program: &[u8], head: &[u8]) -> Begun
+pub fn setup_in(rt: &HostRuntime, program: &[u8], head: &[u8]) -> Begun
     ensures { BeginsWith head.now result }
 {
     if head.len() == 0 {
-        console::say(program, b"no setup record\n");
+        console::say(rt, program, b"no setup record\n");
         return Begun::End;
     }
     match house::read_record(Place::Start, head) {
         AtHand::Part => {
-            console::stop(program, 0, Fault::Short);
+            console::stop(rt, program, 0, Fault::Short);
             Begun::End
         }
         AtHand::Bad(fault) => {
-            console::stop(program, 0, fault);
+            console::stop(rt, program, 0, fault);
             Begun::End
         }
-        AtHand::Whole(said) => chosen(program, house::data_of(said, head)),
+        AtHand::Whole(said) => chosen(rt, program, house::data_of(said, head)),
     }
 }
 

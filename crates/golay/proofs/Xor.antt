@@ -1,9 +1,9 @@
 -- Laws of the exclusive or, and of the count of ones.
 -- Assumes nothing.
 use mathlib.Core.Path.{◌≡◌, refl, sym, ap, ap₂, ◌∙◌}
-use mathlib.Core.Logic.{◌⊎◌, inl, inr, ⊎_elim}
+use mathlib.Core.Logic.{◌⊎◌, inl, inr}
 use mathlib.Core.List.{List, [], ◌∷◌}
-use Prim.Native.Nat.{ℕ, zero, suc, ◌+◌, ◌-◌, ◌*◌, ◌/◌, ◌%◌, ◌^◌, ◌≤◌, ◌<◌, zero-le, suc-le-suc}
+use Prim.Native.Nat.{ℕ, zero, suc, ◌+◌, ◌*◌, ◌/◌, ◌%◌, ◌^◌, ◌≤◌, ◌<◌, zero-le}
 use native.Mathlib.Nat.{not-suc-le-zero, le_of_suc-le-suc, mod-lt, zero-lt-suc, zero-add, zero-mul, one-mul, suc-add, div-one}
 use native.Mathlib.Omega.{arith}
 use mathlib.Core.Bool.{Bool, true, false}
@@ -14,8 +14,7 @@ use lib.Dec.{T, ltb, eqb, ltb→lt}
 use Rattle.golay.proofs.Test.{both, both_left, both_right}
 use lib.Bits.{bit_xor, differ, xor_step, xor_lt, xor_shr, xor_mod, xor_comm, xor_self, xor_zero_r}
 use lib.Count.{ones, ones_in, ones_step}
-use lib.ListN.{length, get_or, drop, length-drop}
-use lib.Seq.{drop-cons}
+use lib.ListN.{length}
 use native.Mathlib.Numerals.{add-one, one-add}
 use Rattle.golay.specs.Golay.{chosen}
 

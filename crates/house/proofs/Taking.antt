@@ -6,7 +6,7 @@ use lib.ListN.{drop}
 use lib.Seq.{drop-append-le}
 use Rattle.house.specs.declared.Place.{Place}
 use Rattle.house.specs.Records.{length_of}
-use Rattle.house.specs.Series.{unread_in, Item, Taken, nothing, then}
+use Rattle.house.specs.Series.{Item, Taken, nothing, then}
 use Rattle.house.specs.Slices.{data_in}
 use Rattle.house.proofs.Slicing.{whole_fits, more_whole, more_data}
 

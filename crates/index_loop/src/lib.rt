@@ -15,6 +15,7 @@ use files::Got;
 use house::{AtHand, Fault, Place, Record};
 use jumping::Wanted;
 use receiver::{Find, Place as Began, Receiver, Stamp};
+use std::fs::File;
 
 // No TP has so many finds, and no input block so many records: a loop over them ends for this. One that it cut short would go on
 // at the same place.
@@ -246,14 +247,14 @@ fn turns(
 }
 
 // Reads the record anew that is not whole, and what follows it.
-fn read_on(fd: i32, block: &mut [u8], unread: Unread) -> Next
+fn read_on(file: &File, block: &mut [u8], unread: Unread) -> Next
     requires { Lies (length block.old) unread }
     ensures lies { Lies (length block.new) result.unread }
     ensures reads_on { ReadsOn block.old unread result.stop result.unread block.new }
 {
     let begin = files::sum(unread.gone, unread.from as u64);
     let n = unread.till - unread.from;
-    match files::read_at(fd, begin, block) {
+    match files::read_at(file, begin, block) {
         Got::Failed => Next {
             unread,
             stop: Stop::Unreadable,
@@ -278,7 +279,7 @@ fn read_on(fd: i32, block: &mut [u8], unread: Unread) -> Next
 }
 
 // Where no more records of the block can be taken: reads on unless a whole record is at hand. A bad one stops.
-fn go_on(fd: i32, block: &mut [u8], unread: Unread) -> Next
+fn go_on(file: &File, block: &mut [u8], unread: Unread) -> Next
     requires { Lies (length block.old) unread }
     ensures lies { Lies (length block.new) result.unread }
     ensures goes_on { GoesOn block.old unread result.stop result.unread block.new }
@@ -292,13 +293,13 @@ fn go_on(fd: i32, block: &mut [u8], unread: Unread) -> Next
             unread,
             stop: Stop::More,
         },
-        AtHand::Part => read_on(fd, block, unread),
+        AtHand::Part => read_on(file, block, unread),
     }
 }
 
 // Reads on from a record, until so much of the output block is held, the recording ends, or many blocks are read.
 pub fn advance(
-    fd: i32,
+    file: &File,
     task: Task,
     full: usize,
     first: Walk,
@@ -329,7 +330,7 @@ pub fn advance(
         record = ahead.record;
         at = ahead.at;
         let from = ahead.from;
-        let next = go_on(fd, block, Unread { gone, from, till });
+        let next = go_on(file, block, Unread { gone, from, till });
         unread = next.unread;
         let stop = next.stop;
         let Stop::More = stop else {

@@ -1,5 +1,5 @@
 -- The packet that a line of an index names (R-8): "the first of its sort begun at or after that place". Assumes nothing.
-use Rattle.std.specs.Prelude.{ℕ, Bool, true, false, cond, not, ◌&&◌, List, []}
+use Rattle.std.specs.Prelude.{ℕ, Bool, false, cond, not, ◌&&◌, List, []}
 use Rattle.indexing.specs.Lines.{at_or_after}
 use Rattle.reading.specs.Packets.{packet_of}
 use Rattle.receiver.specs.declared.Find.{Find}

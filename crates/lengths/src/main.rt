@@ -8,62 +8,62 @@ mod queued;
 use sender::Answer;
 
 // A refusal stands as its number.
-fn print_offer(sort: &[u8], sp: &[u8], a: Answer, queue: &[u8]) {
-    io::write_all(1, sort);
-    io::print_decimal(1, sp.len() as u64);
-    io::write_all(1, b":");
+fn print_offer(rt: &HostRuntime, sort: &[u8], sp: &[u8], a: Answer, queue: &[u8]) {
+    streams::print(rt, sort);
+    streams::print_number(rt, sp.len() as u64);
+    streams::print(rt, b":");
     match a {
-        Answer::Done(_) => queued::print_eps(queue),
-        Answer::Refused(k) => queued::print_refusal(k),
+        Answer::Done(_) => queued::print_eps(rt, queue),
+        Answer::Refused(k) => queued::print_refusal(rt, k),
     }
-    io::write_all(1, b"\n");
+    streams::print(rt, b"\n");
 }
 
 // F = 65,535. The queue has room for 131,072 bytes in three EPs.
-fn offer_ordinary(sp: &[u8]) {
+fn offer_ordinary(rt: &HostRuntime, sp: &[u8]) {
     let low = [0u8; 16];
     let mut ordinary = [0u8; 131090];
     let Answer::Done(s) = sender::open(2051, 0, 65535, &low, &ordinary) else {
         return;
     };
     let a = sender::offer_ordinary(s, &low, &mut ordinary, 1, sp);
-    print_offer(b"ordinary ", sp, a, &ordinary);
+    print_offer(rt, b"ordinary ", sp, a, &ordinary);
 }
 
 // TP length 16. The queue has room for more than the longest packet.
-fn offer_low(sp: &[u8]) {
+fn offer_low(rt: &HostRuntime, sp: &[u8]) {
     let mut low = [0u8; 16];
     let ordinary = [0u8; 16];
     let Answer::Done(s) = sender::open(16, 0, 65535, &low, &ordinary) else {
         return;
     };
     let a = sender::offer_low(s, &mut low, &ordinary, 1, sp);
-    print_offer(b"low ", sp, a, &low);
+    print_offer(rt, b"low ", sp, a, &low);
 }
 
 // The packet's first n bytes, each lent by a call of its own: parts that one function lends in turn are dear to check.
-fn ordinary_of(packet: &[u8], n: usize) {
+fn ordinary_of(rt: &HostRuntime, packet: &[u8], n: usize) {
     let end = queue::least(n, packet.len());
-    offer_ordinary(&packet[0..end]);
+    offer_ordinary(rt, &packet[0..end]);
 }
 
-fn low_of(packet: &[u8], n: usize) {
+fn low_of(rt: &HostRuntime, packet: &[u8], n: usize) {
     let end = queue::least(n, packet.len());
-    offer_low(&packet[0..end]);
+    offer_low(rt, &packet[0..end]);
 }
 
-fn main() {
+fn main(rt: HostRuntime) {
     let packet = [170u8; 131073];
     // 5: "65,535 bytes give one EP"
-    ordinary_of(&packet, 65535);
+    ordinary_of(&rt, &packet, 65535);
     // 5: "65,536 give two", which are pieces of F, the last holding the rest
-    ordinary_of(&packet, 65536);
+    ordinary_of(&rt, &packet, 65536);
     // 5: "131,072 give three (the last of 2)"
-    ordinary_of(&packet, 131072);
+    ordinary_of(&rt, &packet, 131072);
     // 5: "131,073 give 3"
-    ordinary_of(&packet, 131073);
+    ordinary_of(&rt, &packet, 131073);
     // 8: "low-latency of 5 bytes is accepted", as one complete EP
-    low_of(&packet, 5);
+    low_of(&rt, &packet, 5);
     // 8: "of 6 gives 3"
-    low_of(&packet, 6);
+    low_of(&rt, &packet, 6);
 }

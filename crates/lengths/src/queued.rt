@@ -26,9 +26,9 @@ fn number_of(k: Refusal) -> u64
     }
 }
 
-pub fn print_refusal(k: Refusal) {
-    io::write_all(1, b" refused ");
-    io::print_decimal(1, number_of(k));
+pub fn print_refusal(rt: &HostRuntime, k: Refusal) {
+    streams::print(rt, b" refused ");
+    streams::print_number(rt, number_of(k));
 }
 
 // The EP of a header that n bytes follow. Zeros read as fill, which nobody offers: a cleared queue ends there.
@@ -61,24 +61,24 @@ fn ep_in(bytes: &[u8]) -> Ep
     }
 }
 
-fn print_flag(fragment: u8) {
+fn print_flag(rt: &HostRuntime, fragment: u8) {
     match fragment {
-        0 => io::write_all(1, b" complete "),
-        1 => io::write_all(1, b" first "),
-        2 => io::write_all(1, b" middle "),
-        _ => io::write_all(1, b" last "),
+        0 => streams::print(rt, b" complete "),
+        1 => streams::print(rt, b" first "),
+        2 => streams::print(rt, b" middle "),
+        _ => streams::print(rt, b" last "),
     };
 }
 
 // Flag and length of each EP, from the queue's start on.
-pub fn print_eps(queue: &[u8]) {
+pub fn print_eps(rt: &HostRuntime, queue: &[u8]) {
     let mut at = 0;
     while at < queue.len() {
         let Ep::Whole { fragment, size } = ep_in(&queue[at..]) else {
             return;
         };
-        print_flag(fragment);
-        io::print_decimal(1, size as u64);
+        print_flag(rt, fragment);
+        streams::print_number(rt, size as u64);
         at += 6 + size;
     }
 }

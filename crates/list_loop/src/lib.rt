@@ -131,6 +131,7 @@ fn turns(
 
 // Takes block after block.
 fn blocks(
+    rt: &HostRuntime,
     book: &[u16; 8192],
     first: Run,
     input: Unread,
@@ -149,8 +150,15 @@ fn blocks(
         run = turns(book, run, till, block, room, out);
         let from = run.from;
         let unread = Unread { gone, from, till };
-        let More::Read(next) = console::go_on(b"c7list", Place::Listing, block, unread, out, run.at)
-        else {
+        let More::Read(next) = console::go_on(
+            rt,
+            b"c7list",
+            Place::Listing,
+            block,
+            unread,
+            out,
+            run.at,
+        ) else {
             return;
         };
         let receiver = run.receiver;
@@ -169,12 +177,12 @@ fn blocks(
     }
 }
 
-fn list(setup: Setup, unread: Unread, block: &mut [u8])
+fn list(rt: &HostRuntime, setup: Setup, unread: Unread, block: &mut [u8])
     requires { (length block.old ≤ 131072) × ((unread.from ≤ unread.till) × (unread.till ≤ length block.old)) }
 {
     let mut room = [0u8; 32768];
     let Opened::Ready(receiver) = receiver::open(setup.tp, setup.stream, &room) else {
-        console::stop(b"c7list", 0, Fault::Limits);
+        console::stop(rt, b"c7list", 0, Fault::Limits);
         return;
     };
     // The code's tables, filled once: a word is then read by one load.
@@ -190,14 +198,14 @@ fn list(setup: Setup, unread: Unread, block: &mut [u8])
         at,
         from,
     };
-    blocks(&book, run, unread, block, &mut room, &mut out);
+    blocks(rt, &book, run, unread, block, &mut room, &mut out);
 }
 
 // From standard input to standard output.
-pub fn from_input() {
+pub fn from_input(rt: &HostRuntime) {
     let mut block = [0u8; 131072];
-    let Start::Ready(setup, unread) = console::first(b"c7list", &mut block) else {
+    let Start::Ready(setup, unread) = console::first(rt, b"c7list", &mut block) else {
         return;
     };
-    list(setup, unread, &mut block);
+    list(rt, setup, unread, &mut block);
 }

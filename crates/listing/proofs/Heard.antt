@@ -16,7 +16,7 @@ use Rattle.receiver.specs.Call.{Gave, Gives, Said, call_as, call_of, data_of, la
 use Rattle.receiver.specs.Join.{Finding}
 use Rattle.receiver.specs.Low.{wire}
 use Rattle.receiver.specs.State.{Able}
-use Rattle.receiver.specs.Tp.{Listing, Stand, tp_in, listing_of, stamping_of, count_after}
+use Rattle.receiver.specs.Tp.{Listing, tp_in, listing_of, stamping_of, count_after}
 use Rattle.receiver.proofs.Called.{Calls, coming_of, more_rest, full_on, whole_on, own, own_steady, whole_tp}
 use Rattle.receiver.proofs.Called as C
 use Rattle.receiver.proofs.Ending.{Ended, Within, Numbered, Tells, call_tells, six_tells}

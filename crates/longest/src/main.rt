@@ -19,39 +19,39 @@ fn fill(packet: &mut [u8]) {
 }
 
 // Two bytes: how many packets.
-fn send(packet: &[u8], queue: &mut [u8]) -> bool {
+fn send(rt: &HostRuntime, packet: &[u8], queue: &mut [u8]) -> bool {
     let mut count = [0u8; 2];
-    if io::read_full(0, &mut count) < 2 {
+    if streams::read_full(rt, &mut count) < 2 {
         return false;
     }
-    sending::packets(packet, queue, digits::from_two(count[0], count[1]));
+    sending::packets(rt, packet, queue, digits::from_two(count[0], count[1]));
     true
 }
 
 // One part of the input; answers whether another may follow.
-fn turn(packet: &[u8], queue: &mut [u8]) -> bool {
+fn turn(rt: &HostRuntime, packet: &[u8], queue: &mut [u8]) -> bool {
     let mut head = [0u8; 1];
-    if io::read_full(0, &mut head) < 1 {
+    if streams::read_full(rt, &mut head) < 1 {
         return false;
     }
     let end = head[0];
     match end {
-        1 => send(packet, queue),
+        1 => send(rt, packet, queue),
         2 => {
-            receiving::input();
+            receiving::input(rt);
             false
         }
         _ => false,
     }
 }
 
-fn main() {
+fn main(rt: HostRuntime) {
     let mut packet = [0u8; 131072];
     fill(&mut packet);
     let mut queue = [0u8; 262144];
     let mut left = LAST;
     while 0 < left {
-        if !turn(&packet, &mut queue) {
+        if !turn(&rt, &packet, &mut queue) {
             return;
         }
         left -= 1;

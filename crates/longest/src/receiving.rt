@@ -126,7 +126,7 @@ fn block(first: Run, tps: &[u8], room: &mut [u8]) -> Run
 }
 
 // Blocks of 64 TPs; a shorter one is the last.
-fn blocks(first: Run, room: &mut [u8]) -> Run
+fn blocks(rt: &HostRuntime, first: Run, room: &mut [u8]) -> Run
     requires { Able first.receiver }
     ensures { Able result.receiver }
 {
@@ -134,7 +134,7 @@ fn blocks(first: Run, room: &mut [u8]) -> Run
     let mut run = first;
     let mut left = LAST;
     while 0 < left {
-        let n = io::read_full(0, &mut buf);
+        let n = streams::read_full(rt, &mut buf);
         run = block(run, &buf[0..n], room);
         if n < 131264 {
             return run;
@@ -144,16 +144,16 @@ fn blocks(first: Run, room: &mut [u8]) -> Run
     run
 }
 
-fn report(t: Tally) {
-    print(b"received ", t.packets);
-    print(b" bytes ", t.bytes);
-    print(b" others ", t.others);
-    print(b" digest ", t.digest);
-    io::write_all(1, b"\n");
+fn report(rt: &HostRuntime, t: Tally) {
+    print(rt, b"received ", t.packets);
+    print(rt, b" bytes ", t.bytes);
+    print(rt, b" others ", t.others);
+    print(rt, b" digest ", t.digest);
+    streams::print(rt, b"\n");
 }
 
 // What is left of the input is TPs.
-pub fn input() {
+pub fn input(rt: &HostRuntime) {
     let mut room = [0u8; 131072];
     let Opened::Ready(receiver) = receiver::open(TP, 5, &room) else {
         return;
@@ -164,7 +164,7 @@ pub fn input() {
         others: 0,
         digest: 0,
     };
-    let run = blocks(Run { receiver, tally }, &mut room);
+    let run = blocks(rt, Run { receiver, tally }, &mut room);
     let t = run.tally;
-    report(t);
+    report(rt, t);
 }

@@ -19,7 +19,7 @@ fn mixed(digest: u64, x: u8) -> u64 {
     (digest >> 1 | digest << 63) ^ x as u64
 }
 
-pub fn print(name: &[u8], n: u64) {
-    io::write_all(1, name);
-    io::print_decimal(1, n);
+pub fn print(rt: &HostRuntime, name: &[u8], n: u64) {
+    streams::print(rt, name);
+    streams::print_number(rt, n);
 }

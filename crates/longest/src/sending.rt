@@ -70,13 +70,13 @@ fn sent(first: Run, low: &[u8], ordinary: &mut [u8], packet: &[u8], count: usize
 }
 
 // Sends the packet so many times.
-pub fn packets(packet: &[u8], ordinary: &mut [u8], count: usize) {
+pub fn packets(rt: &HostRuntime, packet: &[u8], ordinary: &mut [u8], count: usize) {
     let low = [0u8; 16];
     let Answer::Done(sender) = sender::open(2051, 5, 65535, &low, ordinary) else {
         return;
     };
     let run = sent(Run { sender, digest: 0 }, &low, ordinary, packet, count);
-    print(b"sent ", count as u64);
-    print(b" digest ", run.digest);
-    io::write_all(1, b"\n");
+    print(rt, b"sent ", count as u64);
+    print(rt, b" digest ", run.digest);
+    streams::print(rt, b"\n");
 }

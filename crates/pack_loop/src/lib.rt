@@ -54,7 +54,14 @@ fn turns(first: Run, till: usize, sp: &mut [u8], block: &[u8], out: &mut [u8]) -
 }
 
 // Takes block after block.
-fn blocks(first: Run, input: Unread, sp: &mut [u8], block: &mut [u8], out: &mut [u8])
+fn blocks(
+    rt: &HostRuntime,
+    first: Run,
+    input: Unread,
+    sp: &mut [u8],
+    block: &mut [u8],
+    out: &mut [u8],
+)
     requires { Ready first input.till (length block.old) }
 {
     let mut run = first;
@@ -65,12 +72,19 @@ fn blocks(first: Run, input: Unread, sp: &mut [u8], block: &mut [u8], out: &mut 
         run = turns(run, till, sp, block, out);
         if run.refused != 0 {
             let from = run.last;
-            console::refused(b"c7pack", Unread { gone, from, till }, run.refused);
+            console::refused(rt, b"c7pack", Unread { gone, from, till }, run.refused);
         }
         let from = run.from;
         let unread = Unread { gone, from, till };
-        let More::Read(next) = console::go_on(b"c7pack", Place::Sending, block, unread, out, run.at)
-        else {
+        let More::Read(next) = console::go_on(
+            rt,
+            b"c7pack",
+            Place::Sending,
+            block,
+            unread,
+            out,
+            run.at,
+        ) else {
             return;
         };
         run = Run {
@@ -86,7 +100,7 @@ fn blocks(first: Run, input: Unread, sp: &mut [u8], block: &mut [u8], out: &mut 
 }
 
 // A record more than FULL bytes always has room in the output block.
-fn pack(unread: Unread, block: &mut [u8])
+fn pack(rt: &HostRuntime, unread: Unread, block: &mut [u8])
     requires { (13 ≤ length block.old) × ((unread.from ≤ unread.till) × (unread.till ≤ length block.old)) }
 {
     let mut sp = [0u8; 32768];
@@ -99,14 +113,14 @@ fn pack(unread: Unread, block: &mut [u8])
         from,
         refused: 0,
     };
-    blocks(run, unread, &mut sp, block, &mut out);
+    blocks(rt, run, unread, &mut sp, block, &mut out);
 }
 
 // From standard input to standard output.
-pub fn from_input() {
+pub fn from_input(rt: &HostRuntime) {
     let mut block = [0u8; 131072];
-    let Start::Ready(_, unread) = console::first(b"c7pack", &mut block) else {
+    let Start::Ready(_, unread) = console::first(rt, b"c7pack", &mut block) else {
         return;
     };
-    pack(unread, &mut block);
+    pack(rt, unread, &mut block);
 }

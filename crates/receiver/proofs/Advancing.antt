@@ -30,7 +30,7 @@ use Rattle.receiver.specs.Kind.{kind_of}
 use Rattle.receiver.specs.Turns.{admit_of, advance_by, advance_of, begun_at, body_turn, finish_of, fits_of, further_of, goes, grown_by, handed_of, header_turn, kept_as, meets_of, opened_of, rank, stops, toil, whole_of}
 use Rattle.receiver.specs.Pieces.{head_role, read_of, role_of}
 use Rattle.receiver.specs.Turn.{Fits, put_by, put_of}
-use Rattle.receiver.specs.InWalk.{pasted, room_by, room_of}
+use Rattle.receiver.specs.InWalk.{room_by, room_of}
 use Rattle.receiver.specs.State.{Counts, Fine, Roomy, Sound}
 
 pub grown_of : (n c sum : ℕ) (b : Place) (l : ℕ) (k : Kept) → k ≡ Of c sum b l → Of c sum b (l + n) ≡ grown_by n k

@@ -185,10 +185,10 @@ module _ (by : Receiver → Stamps) (r : Receiver) (tp m : List ℕ) (q : Step) 
   whole_on = w ∙ sym (gave_size r (by r) tp m q m' g)
 
 -- THE FINDS TO COME are those that the calls give
-pub calls_rest : {by : Receiver → Stamps} {r : Receiver} {tp m : List ℕ} {fs : List (Finding wire)} {r' : Receiver} {m' : List ℕ} → Calls by tp r m fs r' m'
+pub calls_rest : {by : Receiver → Stamps} {tp : List ℕ} {r : Receiver} {m : List ℕ} {fs : List (Finding wire)} {r' : Receiver} {m' : List ℕ} → Calls by tp r m fs r' m'
     → Steady by → Able r → length m ≡ r.limit → length tp ≡ r.size → coming_of r.stage r (by r) tp m ≡ (fs, stand_of r' m')
-calls_rest {by} {r} {tp} {m} (last {q = q} {m' = m'} g e) y a f w = last_rest by r tp m q m' g a f w e
-calls_rest {by} {r} {tp} {m} (more {q = q} {m' = m'} g d c) y a f w =
+calls_rest {by} {tp} {r} {m} (last {q = q} {m' = m'} g e) y a f w = last_rest by r tp m q m' g a f w e
+calls_rest {by} {tp} {r} {m} (more {q = q} {m' = m'} g d c) y a f w =
     more_rest by r tp m q m' g a f w y d
     ∙ ap (before (saying r.limit q.find q.about (data_of q.find tp m')))
     (calls_rest c y g.able (full_on by r tp m q m' g a f w) (whole_on by r tp m q m' g a f w))

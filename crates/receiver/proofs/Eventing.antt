@@ -22,7 +22,6 @@ use Rattle.receiver.specs.declared.walk.Phase.TheVariants.{Body, Head, Judged, L
 use Rattle.receiver.specs.declared.walk.Turn.{Turn}
 use Rattle.receiver.specs.declared.walk.Walk.{Walk}
 use Rattle.receiver.specs.Frame.{Out, whole}
-use Rattle.receiver.specs.Join.{finds, held}
 use Rattle.receiver.specs.Kind.{kind_of}
 use Rattle.receiver.specs.Low.{ep_if, wire}
 use Rattle.receiver.specs.Place.{place_at, placed}

@@ -52,7 +52,7 @@ use Rattle.receiver.specs.Pieces.{step_of}
 use Rattle.receiver.specs.Place.{start_of}
 use Rattle.receiver.specs.Pull.{Pulled}
 use Rattle.receiver.specs.State.{Sound, pull_of}
-use Rattle.receiver.specs.Turns.{advance_of, body_turn, goes, header_turn, opened_of, stops, walk_at}
+use Rattle.receiver.specs.Turns.{advance_of, body_turn, header_turn, opened_of, stops, walk_at}
 use Rattle.receiver.proofs.Advancing.{body_cut, body_read}
 use Rattle.receiver.proofs.Answering.{call_gives}
 use Rattle.receiver.proofs.Bodies.{advance_carries, lost_turned}

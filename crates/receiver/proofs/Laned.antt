@@ -18,7 +18,7 @@ use Rattle.receiver.specs.declared.walk.Phase.{Phase}
 use Rattle.receiver.specs.declared.walk.Phase.TheVariants.{Head, Body}
 use Rattle.receiver.specs.declared.walk.Walk.{Walk}
 use Rattle.receiver.specs.InLanes.{FitsIf, SameIf, StandsAs, StandsFor}
-use Rattle.receiver.specs.Lanes.{LanedAs, StandsIn, complete_of, in_lane, walk_in}
+use Rattle.receiver.specs.Lanes.{LanedAs, StandsIn, complete_of, walk_in}
 use Rattle.receiver.specs.State.{Fine, Settled}
 use Rattle.receiver.specs.Turns.{walk_at}
 use Rattle.receiver.proofs.LaneAhead.{complete_is}

@@ -55,15 +55,15 @@ module _ (r : Receiver) (n : Stamps) (tp m : List ℕ) (q : Step) (m' : List ℕ
   unfolding stepped
   counted_later d = ap (λ (g : Gave). g.count) g.same ∙ later_count r n tp m d
 
-calls_leave : {by : Receiver → Stamps} {r : Receiver} {tp m : List ℕ} {fs : List (Finding wire)} {r' : Receiver} {m' : List ℕ} → Calls by tp r m fs r' m'
+calls_leave : {by : Receiver → Stamps} {tp : List ℕ} {r : Receiver} {m : List ℕ} {fs : List (Finding wire)} {r' : Receiver} {m' : List ℕ} → Calls by tp r m fs r' m'
     → length m ≡ r.limit → length tp ≡ r.size → Leaves r r' m m'
-calls_leave {by} {r} {tp} {m} (last {q = q} {m' = m'} g e) f w = record {
+calls_leave {by} {tp} {r} {m} (last {q = q} {m' = m'} g e) f w = record {
   able = g.able;
   fresh = told_over r (by r) tp m q m' g (tells_as r (by r) tp m f w) e;
   setting = same_setting r (by r) tp m q m' g;
   room = gave_room r (by r) tp m q m' g;
 }
-calls_leave {by} {r} {tp} {m} (more {q = q} {m' = m'} g n c) f w =
+calls_leave {by} {tp} {r} {m} (more {q = q} {m' = m'} g n c) f w =
     let s = same_setting r (by r) tp m q m' g in
     let k = gave_room r (by r) tp m q m' g in
     let l = calls_leave c (k ∙ f ∙ sym (ap (λ (s : Setting). s.room) s)) (w ∙ sym (ap (λ (s : Setting). s.size) s)) in
@@ -90,10 +90,10 @@ tp_leaves {by} {r} {tp} {m} {fs} {r'} {m'} c e f = go (eqb (length tp) r.size) r
     go false w = six_leave c e f (eqb-false (length tp) r.size w)
 
 -- THE COUNT: "The count rises at a TP's first call only"
-within_counts : {by : Receiver → Stamps} {r : Receiver} {tp m : List ℕ} {fs : List (Finding wire)} {r' : Receiver} {m' : List ℕ} → Calls by tp r m fs r' m'
+within_counts : {by : Receiver → Stamps} {tp : List ℕ} {r : Receiver} {m : List ℕ} {fs : List (Finding wire)} {r' : Receiver} {m' : List ℕ} → Calls by tp r m fs r' m'
     → (r.stage ≡ S.Fresh → ⊥) → length m ≡ r.limit → length tp ≡ r.size → r'.count ≡ r.count
-within_counts {by} {r} {tp} {m} (last {q = q} {m' = m'} g e) d f w = counted_later r (by r) tp m q m' g d
-within_counts {by} {r} {tp} {m} (more {q = q} {m' = m'} g n c) d f w =
+within_counts {by} {tp} {r} {m} (last {q = q} {m' = m'} g e) d f w = counted_later r (by r) tp m q m' g d
+within_counts {by} {tp} {r} {m} (more {q = q} {m' = m'} g n c) d f w =
     let s = same_setting r (by r) tp m q m' g in
     within_counts c (λ e. n (told_on r (by r) tp m q m' g (tells_as r (by r) tp m f w) e)) (gave_room r (by r) tp m q m' g ∙ f ∙ sym (ap (λ (s : Setting). s.room) s))
     (w ∙ sym (ap (λ (s : Setting). s.size) s))

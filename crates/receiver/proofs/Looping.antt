@@ -3,7 +3,7 @@
 use mathlib.Core.Path.{refl, subst, sym, ◌≡◌}
 use mathlib.Core.Bool.{true}
 use mathlib.Core.List.{List}
-use Prim.Native.Nat.{ℕ, ◌-◌, ◌<◌}
+use Prim.Native.Nat.{ℕ, ◌<◌}
 use lib.ListN.{length}
 use Rattle.receiver.specs.declared.Find.{Find}
 use Rattle.receiver.specs.declared.Receiver.{Receiver}
@@ -14,7 +14,7 @@ use Rattle.receiver.specs.declared.Turned as D
 use Rattle.receiver.specs.Call.{Gave, Gives, call_of}
 use Rattle.receiver.specs.Pieces.{turn_of}
 use Rattle.receiver.specs.Turn.{Makes, Nearer, TurnedAs, effort, told_goes_on, put_of}
-use Rattle.receiver.specs.State.{Able, from}
+use Rattle.receiver.specs.State.{Able}
 use Rattle.receiver.proofs.Heading.{Bytes}
 use Rattle.receiver.proofs.Making.{turn_makes}
 use Rattle.receiver.proofs.Promising.{turn_as}

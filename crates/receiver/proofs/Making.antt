@@ -3,7 +3,7 @@
 use mathlib.Core.Path.{ap, refl, subst, sym, ◌∙◌, ◌≡◌}
 use mathlib.Core.Bool.{Bool, cond, false, true}
 use mathlib.Core.List.{List}
-use Prim.Native.Nat.{suc, ℕ, ◌+◌, ◌-◌, ◌<◌, ◌≤◌}
+use Prim.Native.Nat.{suc, ℕ, ◌+◌, ◌<◌, ◌≤◌}
 use native.Mathlib.Omega.{arith}
 use lib.Dec.{eqb}
 use lib.ListN.{drop, length}
@@ -39,8 +39,6 @@ use Rattle.receiver.specs.declared.walk.Walk.{Walk}
 use Rattle.receiver.specs.Call.{Gave, Gives, call_as, call_of, counted_of, due_call, low_call, ordinary_call, payload_call, stage_call, stamps_of, walk_to}
 use Rattle.receiver.specs.Place.{place_at, start_of}
 use Rattle.receiver.specs.declared.Stamp.{Stamp}
-use Rattle.receiver.specs.Forecast.{outset}
-use Rattle.receiver.specs.Join.{ordinary}
 use Rattle.receiver.specs.Kind.{kind_of}
 use Rattle.receiver.specs.Low.{llep}
 use Rattle.receiver.specs.Lows.{and_then, lows, lows_of, one_of, passed_by, repaired_of, told_of}

@@ -37,7 +37,7 @@ use Rattle.receiver.specs.declared.walk.Phase.TheVariants.{Lost, Head, Body}
 use Rattle.receiver.specs.declared.walk.Walk.{Walk}
 use Rattle.receiver.specs.Call.{Gave, Gives, call_of, count_in}
 use Rattle.receiver.specs.InSwift.{BehindMet, Done, DueAs, GoesAs, LaneAs, Lent, LowPartAs, OnAs, PartAs, PartBy, SpotAs, Stands, Suits, SwiftAs, TidyMet, ToldAs, count_by, first_spot, made_of, plain_spot}
-use Rattle.receiver.specs.Lanes.{AheadAs, Drops, FirstAs, Lends, LowAs, MetAs, OutAs, Tidy, call_by, complete_of, ends_in, in_lane, loss_end, step_to, walk_in}
+use Rattle.receiver.specs.Lanes.{AheadAs, FirstAs, Lends, LowAs, MetAs, OutAs, Tidy, call_by, complete_of, ends_in, in_lane, loss_end, step_to, walk_in}
 use Rattle.receiver.specs.Lows.{lows_of}
 use Rattle.receiver.specs.Pieces.{none_of, top_of}
 use Rattle.receiver.specs.Place.{count_of, own_of, place_at, start_of}

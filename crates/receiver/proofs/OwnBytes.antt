@@ -38,7 +38,7 @@ use Rattle.receiver.specs.Forecast.{Start, agree, foretold, phase, resume, start
 use Rattle.receiver.specs.Frame.{Event, lose}
 use Rattle.receiver.specs.InStages.{Lent}
 use Rattle.receiver.specs.InWalk.{room_of}
-use Rattle.receiver.specs.Join.{finds, low}
+use Rattle.receiver.specs.Join.{low}
 use Rattle.receiver.specs.Kind.{kind_of}
 use Rattle.receiver.specs.Low.{begin_of, ep_at, given, llep, wire}
 use Rattle.receiver.specs.Lows.{repaired_of, told_of}

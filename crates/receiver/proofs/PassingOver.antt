@@ -4,7 +4,6 @@ use mathlib.Core.Path.{◌≡◌, refl, sym, subst, ap, ◌∙◌}
 use mathlib.Core.Bool.{Bool, true, false}
 use mathlib.Core.List.{List, [], ◌∷◌}
 use mathlib.Core.Option.{some}
-use mathlib.Core.Logic.{inl, inr}
 use Prim.Native.Nat.{ℕ, ◌+◌, ◌-◌, ◌%◌, ◌/◌, ◌^◌, ◌≤◌, ◌<◌, min}
 use native.Mathlib.Omega.{arith}
 use lib.Dec.{eqb, leb, lit<}
@@ -15,9 +14,6 @@ use Rattle.digits.specs.Digits.{number}
 use Rattle.digits.proofs.Laws.{number_append}
 use Rattle.golay.specs.Golay.{chosen, code_word, distance}
 use Rattle.queue.specs.Ring.{copied}
-use denote.Enum.Declared.{tag_of}
-use types.Run.{OneOf}
-use Rattle.receiver.specs.contracts.walk.Phase.{the_type}
 use Rattle.wire.specs.declared.Header.{Header}
 use Rattle.wire.specs.Reading.{header_in, stream_of, tp_number_in, version_of}
 use Rattle.wire.specs.Wire.{first_number}
@@ -279,16 +275,14 @@ data_if r tp room h left c e g len able bytes long p k more said s whole full st
 -- ---- data that are taken
 
 module _ (r : Receiver) (tp m : List ℕ) (able : Able r) (full : length m ≡ r.limit) (i : InData r (length tp)) where
-  pub has_left : OneOf (0 ∷ 1 ∷ 2 ∷ []) (tag_of the_type r.walk.phase) → ⊥
+  pub has_left : ((h : Header) (left : ℕ) → r.walk.phase ≡ Body h left → ⊥) → ⊥
   has_left = by r.walk.phase i.more
     where
-      by : (p : Phase) → LeftOver (length tp - 4) p → OneOf (0 ∷ 1 ∷ 2 ∷ []) (tag_of the_type p) → ⊥
+      by : (p : Phase) → LeftOver (length tp - 4) p → ((h : Header) (left : ℕ) → p ≡ Body h left → ⊥) → ⊥
       by Lost l o = omega (arith, l)
       by (Head n w) l o = omega (arith, l)
       by (Judged h) l o = omega (arith, l)
-      by (Body h left) l (inl e) = omega (arith, e)
-      by (Body h left) l (inr (inl e)) = omega (arith, e)
-      by (Body h left) l (inr (inr e)) = omega (arith, e)
+      by (Body h left) l o = o h left refl
 
   pub has_kept : r.walk.kept ≡ Empty → ⊥
   has_kept e = let l = subst Keeping e i.kept in omega (arith, l)

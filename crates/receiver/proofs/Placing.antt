@@ -1,5 +1,5 @@
 -- Bytes with their places: what is kept of them, and parts of them. Assumes nothing.
-use mathlib.Core.Path.{ap, refl, sym, ◌∙◌, ◌≡◌}
+use mathlib.Core.Path.{ap, refl, ◌∙◌, ◌≡◌}
 use mathlib.Core.List.{List, [], ◌++◌, ◌∷◌}
 use Prim.Native.Nat.{suc, zero, ℕ, ◌+◌}
 use native.Mathlib.Omega.{arith}

@@ -29,7 +29,6 @@ use Rattle.receiver.specs.declared.walk.Turn.{Turn}
 use Rattle.receiver.specs.declared.walk.Turn.TheVariants.{More, Stop}
 use Rattle.receiver.specs.declared.walk.Walk.{Walk}
 use Rattle.receiver.specs.Call.{walk_to}
-use Rattle.receiver.specs.Join.{ordinary}
 use Rattle.receiver.specs.Kind.{kind_of}
 use Rattle.receiver.specs.Low.{llep}
 use Rattle.receiver.specs.Lows.{told_of}
@@ -38,7 +37,7 @@ use Rattle.receiver.specs.Outset.{fore_of, out_by, place_of, set_out_of, upon_of
 use Rattle.receiver.specs.Pieces.{due_turn, gave_of, llep_turn, out_turn, ordinary_turn, read_of, role_of, same_turn, stage_turn, stamp_of, top_turn, turn_of, tell_of, top_of}
 use Rattle.receiver.specs.Turn.{Fits, LessIf, Nearer, TurnedAs, Within, effort, effort_by, told_goes_on}
 use Rattle.receiver.specs.InWalk.{Carries, room_of}
-use Rattle.receiver.specs.State.{Able, Sound, from}
+use Rattle.receiver.specs.State.{Able, Sound}
 use Rattle.receiver.proofs.Advancing.{LessBy, advance_ahead, advance_fits, advance_less, gain_of, rank_in, walk_of}
 use Rattle.receiver.proofs.Bodies.{advance_carries}
 use Rattle.receiver.proofs.Parting.{behind_in}

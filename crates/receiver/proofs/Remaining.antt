@@ -34,7 +34,6 @@ use Rattle.receiver.specs.Outset.{place_of, set_out_of}
 use Rattle.receiver.specs.Pieces.{due_turn, llep_turn, out_turn, ordinary_turn, receiver_with, same_turn, stage_turn, stamp_of, top_turn, turn_of, tell_of, top_of}
 use Rattle.receiver.specs.Turn.{Makes, put_of}
 use Rattle.receiver.specs.State.{Able}
-use Rattle.receiver.specs.Tp.{Listing}
 use Rattle.receiver.proofs.Called.{call_rest, coming_of}
 use Rattle.receiver.proofs.Heading.{Bytes}
 use Rattle.receiver.proofs.Making.{turn_makes}

@@ -27,7 +27,7 @@ use Rattle.receiver.specs.declared.Stage.TheVariants.{Fresh, Plain}
 use Rattle.receiver.specs.declared.Stamp.{Stamp}
 use Rattle.receiver.specs.declared.entry.Begun.TheVariants as B
 use Rattle.receiver.specs.declared.kind.Kind.{Kind}
-use Rattle.receiver.specs.declared.kind.Kind.TheVariants.{Complete, Fill, First, Last, Middle, Reserved}
+use Rattle.receiver.specs.declared.kind.Kind.TheVariants.{Complete, First, Last, Middle, Reserved}
 use Rattle.receiver.specs.declared.series.Chain.{Chain}
 use Rattle.receiver.specs.declared.series.Chain.TheVariants as K
 use Rattle.receiver.specs.declared.series.Course.{Course}

@@ -21,11 +21,11 @@ use Rattle.receiver.specs.declared.walk.Walk.{Walk}
 use Rattle.receiver.specs.Place.{placed, start_of}
 use Rattle.receiver.proofs.Foretelling.{fore_any, fore_within}
 use Rattle.receiver.proofs.Placing.{length_placed}
-use Rattle.receiver.specs.Forecast.{Start, since, agree, between, foretold, inside, judge, off, phase, resume, set_out, start, upon}
+use Rattle.receiver.specs.Forecast.{Start, since, agree, between, foretold, inside, judge, off, phase, resume, set_out as decide, start, upon}
 use Rattle.wire.specs.declared.Header.{Header}
 use Rattle.digits.specs.Digits.{digits}
 use Rattle.receiver.specs.Frame.{Event, Frame, idle, lose, lost, within}
-use Rattle.receiver.specs.Low.{Ep, ep_at, wire}
+use Rattle.receiver.specs.Low.{ep_at, wire}
 use Rattle.receiver.specs.Outset.{fore_at, fore_of, lost_at, out_by, seen, set_out_of, upon_of}
 use Rattle.receiver.specs.InWalk.{shown}
 use Rattle.receiver.specs.InOutset.{SetsOut, set_out}
@@ -35,7 +35,7 @@ use Rattle.receiver.specs.Forecast as F
 
 -- what the forecast decides
 
-pub by_off : (p : F.Phase) (o : Option ℕ) (z : Place) (f : Frame wire) (n : ℕ) (bs : List (Place × ℕ)) → seen p o ≡ Off → set_out wire p z f n bs ≡ resume wire [] n bs
+pub by_off : (p : F.Phase) (o : Option ℕ) (z : Place) (f : Frame wire) (n : ℕ) (bs : List (Place × ℕ)) → seen p o ≡ Off → decide wire p z f n bs ≡ resume wire [] n bs
 by_off off o z f n bs e = refl
 by_off between none z f n bs e = cc
 by_off between (some k) z f n bs e = cc
@@ -43,7 +43,7 @@ by_off inside none z f n bs e = cc
 by_off inside (some k) z f n bs e = cc
 
 pub by_bad : (p : F.Phase) (o : Option ℕ) (z : Place) (f : Frame wire) (n : ℕ) (bs : List (Place × ℕ)) → foretold wire f bs ≡ o → seen p o ≡ Bad
-    → set_out wire p z f n bs ≡ resume wire (lose 12 (since wire z f) ∷ []) n bs
+    → decide wire p z f n bs ≡ resume wire (lose 12 (since wire z f) ∷ []) n bs
 by_bad off o z f n bs q e = cc
 by_bad between none z f n bs q e = ap (λ (o : Option ℕ). judge wire o z f n bs) q
 by_bad between (some k) z f n bs q e = cc
@@ -51,7 +51,7 @@ by_bad inside none z f n bs q e = ap (λ (o : Option ℕ). judge wire o z f n bs
 by_bad inside (some k) z f n bs q e = cc
 
 pub by_at : (k : ℕ) (p : F.Phase) (o : Option ℕ) (z : Place) (f : Frame wire) (n : ℕ) (bs : List (Place × ℕ)) → foretold wire f bs ≡ o → seen p o ≡ At k
-    → set_out wire p z f n bs ≡ agree wire (eqb k n) z f n bs
+    → decide wire p z f n bs ≡ agree wire (eqb k n) z f n bs
 by_at k off o z f n bs q e = cc
 by_at k between none z f n bs q e = cc
 by_at k between (some i) z f n bs q e = let y : i ≡ k = cc in ap (λ (o : Option ℕ). judge wire o z f n bs) q ∙ ap (λ (i : ℕ). agree wire (eqb i n) z f n bs) y

@@ -27,7 +27,7 @@ use Rattle.receiver.specs.declared.low.Llep.TheVariants.{Broken, Whole}
 use Rattle.receiver.specs.Place.{place_at, start_of, placed, own_of, count_of}
 use Rattle.receiver.specs.Frame.{Frame, lost, idle, head, body, Event, lose, gap, opened, entered, fed, closed, Out, ending, whole, step, after, events}
 use Rattle.receiver.specs.Forecast.{foretold, since, upon, resume, agree, judge, Way, stays, drops, gaps, goes, read, by_way, way_at}
-use Rattle.receiver.specs.Join.{Finding, Held, free, held, take_in, holding}
+use Rattle.receiver.specs.Join.{Finding, Held, free, take_in, holding}
 use Rattle.receiver.specs.Low.{wire, llep, Part, walked, walk, low_part}
 use Rattle.receiver.specs.Tp.{Setting, Brings, refusing, dropping, behind, low_part_if, worded, brings, Input, tp_in, gap_told, way_of, input_of, Stand, Listing, listing_of, stamping_of, counts, count_after, listing_all, events_all}
 use Rattle.receiver.specs.Loss.{Loss, Loses, count_all, offset_by, offset_of, LostFirst, NotBefore, told_by, HeldSinceLoss, EnteredAt, BegunSinceLoss}

@@ -1,14 +1,12 @@
 -- Strides: an EP whose header stands whole and intact is a turn of its header and a turn of its data, so the call that is asked
 -- for stays the same. Assumes nothing.
 use mathlib.Core.Path.{ap, refl, subst, sym, ◌∙◌, ◌≡◌}
-use mathlib.Core.Option.{none}
 use mathlib.Core.List.{List}
 use Prim.Native.Nat.{ℕ, ◌+◌, ◌-◌, ◌≤◌, min}
 use native.Mathlib.Omega.{arith}
 use lib.ListN.{drop, length, take}
 use lib.Seq.{paste}
 use borrow.Author.Tests.{le-ltb}
-use Rattle.digits.specs.Digits.{number}
 use Rattle.queue.specs.Ring.{copied}
 use Rattle.wire.specs.declared.Header.{Header}
 use Rattle.receiver.specs.declared.Place.{Place}

@@ -14,7 +14,6 @@ use Rattle.receiver.specs.declared.lane.Lane.{Lane}
 use Rattle.receiver.specs.declared.lane.Lane.TheVariants as L
 use Rattle.receiver.specs.declared.kind.Kind.TheVariants.{Complete}
 use Rattle.receiver.specs.declared.track.Track.{Track}
-use Rattle.receiver.specs.declared.walk.Kept.{Kept}
 use Rattle.receiver.specs.declared.walk.Kept.TheVariants.{Empty, Of}
 use Rattle.receiver.specs.declared.walk.Phase.{Phase}
 use Rattle.receiver.specs.declared.walk.Phase.TheVariants.{Body, Head, Lost}

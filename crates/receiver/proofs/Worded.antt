@@ -1,6 +1,6 @@
 -- WORDS AND RECEIVERS UNDO EACH OTHER: a receiver that fits comes back from its words, but for the place that nothing looks at; words
 -- that are not refused give one that fits; and two receivers that show the same have the same words. Assumes nothing.
-use Prim.Native.Nat.{ℕ, ◌+◌, ◌-◌, ◌%◌, ◌^◌, ◌≤◌, ◌<◌}
+use Prim.Native.Nat.{ℕ, ◌+◌, ◌%◌, ◌^◌, ◌≤◌, ◌<◌}
 use mathlib.Core.Bool.{Bool, true, false, cond, ◌&&◌, ◌||◌}
 use mathlib.Core.Logic.{inl, inr, ◌⊎◌}
 use mathlib.Core.List.{List, [], ◌∷◌}
@@ -12,7 +12,6 @@ use lib.ListN.{get_or}
 use borrow.Author.Tests.{le-leb, leb-true, lt-ltb, le-ltb, ltb-true, ne_eqb, eqb-true}
 use Rattle.wire.specs.declared.Header.{Header}
 use Rattle.receiver.specs.declared.Receiver.{Receiver}
-use Rattle.receiver.specs.declared.Opened.{Opened}
 use Rattle.receiver.specs.declared.Opened.TheVariants as O
 use Rattle.receiver.specs.declared.Place.{Place}
 use Rattle.receiver.specs.declared.Stage.{Stage}
@@ -25,8 +24,8 @@ use Rattle.receiver.specs.declared.walk.Kept.TheVariants.{Empty, Of}
 use Rattle.receiver.specs.declared.walk.Walk.{Walk}
 use Rattle.receiver.specs.Call.{Gave, Gives, call_of, stamps_of, stepped}
 use Rattle.receiver.specs.Place.{own_of, start_of}
-use Rattle.receiver.specs.State.{Able, Sound, Fine, Roomy, Settled, Staged}
-use Rattle.receiver.specs.Words.{words_of, stage_words, place_words, head_words, phase_words, kept_words, joined, stage_in, header_from, phase_in, place_in, kept_in, receiver_in, openedb, begunb, stagedb, roomyb, below, phasedb, left_in, fitb, datalessb, bareb, of_words, Opens, Bytes, HeaderBytes, PhaseBytes, KeptBytes, Fit, FitIf}
+use Rattle.receiver.specs.State.{Fine, Roomy, Settled, Staged}
+use Rattle.receiver.specs.Words.{words_of, stage_words, place_words, head_words, phase_words, kept_words, joined, stage_in, header_from, phase_in, place_in, kept_in, receiver_in, openedb, begunb, stagedb, roomyb, below, phasedb, left_in, fitb, datalessb, bareb, of_words, Opens, HeaderBytes, PhaseBytes, KeptBytes, Fit, FitIf}
 use Rattle.receiver.proofs.Lasting.{lasts_as}
 use Rattle.receiver.proofs.Pinned.{began_in, plainly}
 

@@ -1,7 +1,7 @@
 -- How a TP's ordinary bytes are set about: the forecast against the offset (document 01, "Receiver", and 10, 12, 13; R-6).
 -- The offset is one number: how many ordinary bytes stand before the first EP that begins here, all of them if none does.
 -- Assumes nothing.
-use Rattle.std.specs.Prelude.{ℕ, zero, suc, ◌+◌, ◌-◌, Bool, true, false, cond, List, [], ◌∷◌, ◌++◌, eqb, leb, ltb, length, drop}
+use Rattle.std.specs.Prelude.{ℕ, suc, ◌+◌, ◌-◌, Bool, true, false, cond, List, [], ◌∷◌, ◌++◌, eqb, leb, ltb, length, drop}
 use Rattle.std.proofs.Math.Option.{Option, none, some}
 use Rattle.receiver.specs.Frame.{Code, Frame, lost, idle, head, body, Event, lose, gap, Out, step, after, events}
 

@@ -1,6 +1,6 @@
 -- The low-latency part, read as a list of bytes (document 01, "Layouts", "Receiver", and 11, 16; R-2).
 -- Assumes nothing.
-use Rattle.std.specs.Prelude.{ℕ, zero, suc, ◌+◌, min, refl, Bool, true, false, cond, List, [], ◌∷◌, ◌++◌, ltb, length, take, drop, get_or}
+use Rattle.std.specs.Prelude.{ℕ, zero, suc, ◌+◌, min, refl, true, false, cond, List, [], ◌∷◌, ◌++◌, ltb, length, take, drop, get_or}
 use Rattle.std.proofs.Math.Option.{Option, none, some}
 use Rattle.golay.specs.declared.End.{End}
 use Rattle.golay.specs.declared.End.TheVariants.{Zeros, Ones, Neither}

@@ -1,7 +1,7 @@
 -- ONE PIECE FURTHER: what a turn reads of a TP's payload, what it tells, and where it leaves the receiver, with no room.
 -- The pieces of a TP that isn't refused stand one behind the other from place 4 on, and a find ends a call (`call_of`).
 -- Assumes nothing.
-use Rattle.std.specs.Prelude.{ℕ, ◌+◌, ◌%◌, Bool, cond, List, eqb, leb, length, take, drop, get_or}
+use Rattle.std.specs.Prelude.{ℕ, ◌+◌, ◌%◌, cond, List, eqb, leb, length, take, drop, get_or}
 use Rattle.std.proofs.Math.Option.{Option, none, some}
 use Rattle.digits.specs.Digits.{number}
 use Rattle.wire.specs.Reading.{tp_number_in, stream_of, version_of}

@@ -83,6 +83,7 @@ fn turns(
 
 // Takes block after block.
 fn blocks(
+    rt: &HostRuntime,
     first: Run,
     input: Unread,
     tp: usize,
@@ -101,12 +102,19 @@ fn blocks(
         run = turns(run, till, tp, low, ordinary, block, out);
         if run.refused != 0 {
             let from = run.last;
-            console::refused(b"c7send", Unread { gone, from, till }, run.refused);
+            console::refused(rt, b"c7send", Unread { gone, from, till }, run.refused);
         }
         let from = run.from;
         let unread = Unread { gone, from, till };
-        let More::Read(next) = console::go_on(b"c7send", Place::Sending, block, unread, out, run.at)
-        else {
+        let More::Read(next) = console::go_on(
+            rt,
+            b"c7send",
+            Place::Sending,
+            block,
+            unread,
+            out,
+            run.at,
+        ) else {
             return;
         };
         let sender = run.sender;
@@ -123,14 +131,14 @@ fn blocks(
     }
 }
 
-fn send(setup: Setup, unread: Unread, block: &mut [u8])
+fn send(rt: &HostRuntime, setup: Setup, unread: Unread, block: &mut [u8])
     requires { (13 ≤ length block.old) × ((unread.from ≤ unread.till) × (unread.till ≤ length block.old)) }
 {
     let mut low = [0u8; 32768];
     let mut ordinary = [0u8; 32768];
     let Answer::Done(sender) = sender::open(setup.tp, setup.stream, setup.piece, &low, &ordinary)
     else {
-        console::stop(b"c7send", 0, Fault::Limits);
+        console::stop(rt, b"c7send", 0, Fault::Limits);
         return;
     };
     let mut out = [0u8; 65536];
@@ -144,6 +152,7 @@ fn send(setup: Setup, unread: Unread, block: &mut [u8])
         refused: 0,
     };
     blocks(
+        rt,
         run,
         unread,
         setup.tp,
@@ -155,10 +164,10 @@ fn send(setup: Setup, unread: Unread, block: &mut [u8])
 }
 
 // From standard input to standard output.
-pub fn from_input() {
+pub fn from_input(rt: &HostRuntime) {
     let mut block = [0u8; 131072];
-    let Start::Ready(setup, unread) = console::first(b"c7send", &mut block) else {
+    let Start::Ready(setup, unread) = console::first(rt, b"c7send", &mut block) else {
         return;
     };
-    send(setup, unread, &mut block);
+    send(rt, setup, unread, &mut block);
 }

@@ -9,7 +9,7 @@ use borrow.Author.Tests.{le-leb, leb-true}
 use Rattle.queue.specs.declared.Ring.{Ring}
 use Rattle.sender.specs.declared.Setting.{Setting}
 use Rattle.sender.specs.declared.Sender.{Sender}
-use Rattle.sender.specs.Answers.{Given, done, refusal}
+use Rattle.sender.specs.Answers.{done, refusal}
 use Rattle.sender.specs.Opening.{Sound}
 use Rattle.sender.specs.Words.{words_of, sender_in, sound_setting, sound_ring, sound, of_words}
 use Rattle.sender.proofs.Bools.{and_left, and_right}

@@ -106,7 +106,14 @@ fn turns(first: Run, till: usize, block: &[u8], room: &mut [u8], out: &mut [u8])
 }
 
 // Takes block after block.
-fn blocks(first: Run, input: Unread, block: &mut [u8], room: &mut [u8], out: &mut [u8])
+fn blocks(
+    rt: &HostRuntime,
+    first: Run,
+    input: Unread,
+    block: &mut [u8],
+    room: &mut [u8],
+    out: &mut [u8],
+)
     requires { Ready first input.till (length block.old) }
 {
     let mut run = first;
@@ -117,10 +124,11 @@ fn blocks(first: Run, input: Unread, block: &mut [u8], room: &mut [u8], out: &mu
         run = turns(run, till, block, room, out);
         let from = run.from;
         if run.refused != 0 {
-            console::refused(b"c7unpack", Unread { gone, from, till }, run.refused);
+            console::refused(rt, b"c7unpack", Unread { gone, from, till }, run.refused);
         }
         let unread = Unread { gone, from, till };
         let More::Read(next) = console::go_on(
+            rt,
             b"c7unpack",
             Place::Listing,
             block,
@@ -144,12 +152,12 @@ fn blocks(first: Run, input: Unread, block: &mut [u8], room: &mut [u8], out: &mu
 }
 
 // The packets of a TP more than FULL bytes always have room in the output block.
-fn unpack(setup: Setup, unread: Unread, block: &mut [u8])
+fn unpack(rt: &HostRuntime, setup: Setup, unread: Unread, block: &mut [u8])
     requires { (unread.from ≤ unread.till) × (unread.till ≤ length block.old) }
 {
     let mut room = [0u8; 32768];
     let Opened::Ready(receiver) = receiver::open(setup.tp, setup.stream, &room) else {
-        console::stop(b"c7unpack", 0, Fault::Limits);
+        console::stop(rt, b"c7unpack", 0, Fault::Limits);
         return;
     };
     let mut out = [0u8; 131072];
@@ -160,14 +168,14 @@ fn unpack(setup: Setup, unread: Unread, block: &mut [u8])
         from,
         refused: 0,
     };
-    blocks(run, unread, block, &mut room, &mut out);
+    blocks(rt, run, unread, block, &mut room, &mut out);
 }
 
 // From standard input to standard output.
-pub fn from_input() {
+pub fn from_input(rt: &HostRuntime) {
     let mut block = [0u8; 131072];
-    let Start::Ready(setup, unread) = console::first(b"c7unpack", &mut block) else {
+    let Start::Ready(setup, unread) = console::first(rt, b"c7unpack", &mut block) else {
         return;
     };
-    unpack(setup, unread, &mut block);
+    unpack(rt, setup, unread, &mut block);
 }

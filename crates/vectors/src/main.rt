@@ -44,13 +44,13 @@ fn random() -> Tally {
     t
 }
 
-fn main() {
-    report::encoded(encoded());
-    report::ended(ends());
+fn main(rt: HostRuntime) {
+    report::encoded(&rt, encoded());
+    report::ended(&rt, ends());
     let numbers = NUMBERS;
     for i in 0..16 {
         let n = numbers[i];
-        report::decoded(n, flips::up_to_four(flips::none(), golay::encode(n)));
+        report::decoded(&rt, n, flips::up_to_four(flips::none(), golay::encode(n)));
     }
-    report::random(random());
+    report::random(&rt, random());
 }

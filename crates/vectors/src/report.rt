@@ -1,72 +1,72 @@
 // The lines that are printed.
 use crate::flips::Tally;
 
-fn text(s: &[u8]) {
-    io::write_all(1, s);
+fn text(rt: &HostRuntime, s: &[u8]) {
+    streams::print(rt, s);
 }
 
-fn number(n: u64) {
-    io::print_decimal(1, n);
+fn number(rt: &HostRuntime, n: u64) {
+    streams::print_number(rt, n);
 }
 
-fn count(n: u32) {
-    number(n as u64);
+fn count(rt: &HostRuntime, n: u32) {
+    number(rt, n as u64);
 }
 
-fn digest(d: u64) {
-    text(b" digest ");
-    number(d);
-    text(b"\n");
+fn digest(rt: &HostRuntime, d: u64) {
+    text(rt, b" digest ");
+    number(rt, d);
+    text(rt, b"\n");
 }
 
-fn counted(t: Tally) {
+fn counted(rt: &HostRuntime, t: Tally) {
     let counts = t.counts;
-    text(b" intact ");
-    count(counts[0]);
-    text(b" one ");
-    count(counts[1]);
-    text(b" two ");
-    count(counts[2]);
-    text(b" three ");
-    count(counts[3]);
-    text(b" beyond ");
-    count(counts[4]);
-    digest(t.digest);
+    text(rt, b" intact ");
+    count(rt, counts[0]);
+    text(rt, b" one ");
+    count(rt, counts[1]);
+    text(rt, b" two ");
+    count(rt, counts[2]);
+    text(rt, b" three ");
+    count(rt, counts[3]);
+    text(rt, b" beyond ");
+    count(rt, counts[4]);
+    digest(rt, t.digest);
 }
 
 // Three hexadecimal digits in upper case.
-fn number_name(n: u16) {
+fn number_name(rt: &HostRuntime, n: u16) {
     let names = b"0123456789ABCDEF";
     let a = (n / 256 % 16) as usize;
     let b = (n / 16 % 16) as usize;
     let c = (n % 16) as usize;
     let out = [names[a], names[b], names[c]];
-    text(&out);
+    text(rt, &out);
 }
 
-pub fn encoded(d: u64) {
-    text(b"encode 4096");
-    digest(d);
+pub fn encoded(rt: &HostRuntime, d: u64) {
+    text(rt, b"encode 4096");
+    digest(rt, d);
 }
 
-pub fn ended(t: Tally) {
+pub fn ended(rt: &HostRuntime, t: Tally) {
     let counts = t.counts;
-    text(b"end 00 ");
-    count(counts[0]);
-    text(b" FF ");
-    count(counts[1]);
-    text(b" beyond ");
-    count(counts[4]);
-    digest(t.digest);
+    text(rt, b"end 00 ");
+    count(rt, counts[0]);
+    text(rt, b" FF ");
+    count(rt, counts[1]);
+    text(rt, b" beyond ");
+    count(rt, counts[4]);
+    digest(rt, t.digest);
 }
 
-pub fn decoded(n: u16, t: Tally) {
-    text(b"decode ");
-    number_name(n);
-    counted(t);
+pub fn decoded(rt: &HostRuntime, n: u16, t: Tally) {
+    text(rt, b"decode ");
+    number_name(rt, n);
+    counted(rt, t);
 }
 
-pub fn random(t: Tally) {
-    text(b"random 65536");
-    counted(t);
+pub fn random(rt: &HostRuntime, t: Tally) {
+    text(rt, b"random 65536");
+    counted(rt, t);
 }

@@ -1,18 +1,18 @@
 -- What is sent is read back, also with up to three flips in each word.
 -- Assumes nothing.
-use mathlib.Core.Path.{◌≡◌, refl, sym, ap, ap₂, ◌∙◌}
+use mathlib.Core.Path.{◌≡◌, refl, ap, ap₂, ◌∙◌}
 use mathlib.Core.Bool.{Bool, true, false, cond}
-use mathlib.Core.Option.{Option, none, some}
-use mathlib.Core.List.{List, [], ◌∷◌, ◌++◌}
+use mathlib.Core.Option.{some}
+use mathlib.Core.List.{List}
 use Prim.Native.Nat.{ℕ, zero, suc, ◌+◌, ◌*◌, ◌/◌, ◌%◌, ◌^◌, ◌≤◌, ◌<◌}
-use native.Mathlib.Nat.{mod-lt, mod-eq_of_lt}
+use native.Mathlib.Nat.{mod-lt}
 use native.Mathlib.Omega.{arith}
 use lib.Bits.{bit_xor, xor_self}
 use lib.Count.{ones_in}
 use lib.Dec.{leb, lit<}
 use lib.ListN.{length, length-append}
-use Rattle.digits.specs.Digits.{digits, number}
-use Rattle.digits.proofs.Laws.{length_digits, number_append, number_digits}
+use Rattle.digits.specs.Digits.{number}
+use Rattle.digits.proofs.Laws.{length_digits, number_digits}
 use Rattle.golay.specs.Golay.{chosen, code_word, distance, places_to, weight}
 use borrow.Author.Tests.{leb-true}
 use Rattle.golay.specs.declared.Decoded.{Decoded}

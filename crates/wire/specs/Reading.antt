@@ -1,6 +1,6 @@
 -- EP header and TP header as they are read, from any maker (document 01, "Layouts").
 -- Bits 11 and 10 of word 0, and bits 3 and 2 of the stream byte, are ignored. Assumes nothing.
-use Rattle.std.specs.Prelude.{Bool, cond, ◌&&◌, List, ℕ, ◌+◌, ◌*◌, ◌/◌, ◌%◌, ◌^◌, eqb, leb}
+use Rattle.std.specs.Prelude.{cond, ◌&&◌, List, ℕ, ◌+◌, ◌*◌, ◌/◌, ◌%◌, ◌^◌, eqb, leb}
 use Rattle.std.proofs.Math.Option.{Option, none, some}
 use Rattle.digits.specs.Digits.{number}
 use Rattle.golay.specs.declared.Decoded.{Decoded}

@@ -1,6 +1,6 @@
 -- EP header and TP header as they are sent (document 01, "Layouts").
 -- Assumes nothing.
-use Rattle.std.specs.Prelude.{Bool, cond, List, [], ◌∷◌, ◌++◌, ℕ, ◌+◌, ◌*◌, ◌/◌, ◌%◌, length}
+use Rattle.std.specs.Prelude.{Bool, cond, List, ◌∷◌, ◌++◌, ℕ, ◌+◌, ◌*◌, ◌/◌, ◌%◌, length}
 use Rattle.digits.specs.Digits.{digits}
 use Rattle.golay.specs.Golay.{code_word}
 

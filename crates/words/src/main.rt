@@ -8,13 +8,13 @@ mod answers;
 // No input has so many sections: the loop ends for this.
 const LAST: u64 = 0x8000000000000000;
 
-fn print_sort(what: u8) {
+fn print_sort(rt: &HostRuntime, what: u8) {
     match what {
-        0 => io::write_all(1, b"nothing "),
-        1 => io::write_all(1, b"encode "),
-        2 => io::write_all(1, b"decode "),
-        3 => io::write_all(1, b"end "),
-        _ => io::write_all(1, b"places "),
+        0 => streams::print(rt, b"nothing "),
+        1 => streams::print(rt, b"encode "),
+        2 => streams::print(rt, b"decode "),
+        3 => streams::print(rt, b"end "),
+        _ => streams::print(rt, b"places "),
     };
 }
 
@@ -27,18 +27,18 @@ fn digest_of(what: u8, words: &[u8]) -> u64 {
     }
 }
 
-fn print_line(what: u8, count: usize, words: &[u8]) {
-    print_sort(what);
-    io::print_decimal(1, count as u64);
-    io::write_all(1, b" ");
-    io::print_decimal(1, digest_of(what, words));
-    io::write_all(1, b"\n");
+fn print_line(rt: &HostRuntime, what: u8, count: usize, words: &[u8]) {
+    print_sort(rt, what);
+    streams::print_number(rt, count as u64);
+    streams::print(rt, b" ");
+    streams::print_number(rt, digest_of(what, words));
+    streams::print(rt, b"\n");
 }
 
 // One section; answers whether another may follow.
-fn section(buf: &mut [u8]) -> bool {
+fn section(rt: &HostRuntime, buf: &mut [u8]) -> bool {
     let mut head = [0u8; 3];
-    if io::read_full(0, &mut head) < 3 {
+    if streams::read_full(rt, &mut head) < 3 {
         return false;
     }
     let what = head[0];
@@ -50,18 +50,18 @@ fn section(buf: &mut [u8]) -> bool {
         return false;
     }
     let n = 3 * count;
-    if io::read_full(0, &mut buf[0..n]) < n {
+    if streams::read_full(rt, &mut buf[0..n]) < n {
         return false;
     }
-    print_line(what, count, &buf[0..n]);
+    print_line(rt, what, count, &buf[0..n]);
     true
 }
 
-fn main() {
+fn main(rt: HostRuntime) {
     let mut buf = [0u8; 196605];
     let mut left = LAST;
     while 0 < left {
-        if !section(&mut buf) {
+        if !section(&rt, &mut buf) {
             return;
         }
         left -= 1;

@@ -5,7 +5,6 @@ use mathlib.Core.Path.{ap, sym, ◌∙◌}
 use native.Mathlib.Omega.{arith}
 use lib.ListN.{length}
 use Rattle.block.proofs.Laws.{fits, misfits, in_part, block_of}
-use borrow.Author.Rules.{rules}
 use Rattle.block.proofs.put.Goals as goal
 
 pub returns-then-out-at : goal.returns-then-out-at

@@ -1,6 +1,6 @@
 -- `chapter11::agree` meets its contract.
 -- Assumes nothing.
-use Rattle.std.proofs.Common.{◌+◌, sym, arith, rules, ne_eqb}
+use Rattle.std.proofs.Common.{◌+◌, sym, arith, ne_eqb}
 use Rattle.chapter11.proofs.Sources.{agrees}
 use Rattle.chapter11.proofs.agree.Goals as goal
 

@@ -1,7 +1,6 @@
 -- `chapter11::compose` meets its contract: each refusal is the definition's, in its order, and what is put is the result.
 -- Assumes nothing.
-use Rattle.std.proofs.Common.{sym, ◌∙◌, arith, rules}
-use borrow.Author.Tests.{not-true, not-false}
+use Rattle.std.proofs.Common.{sym, ◌∙◌}
 use Rattle.chapter11.proofs.Packets.{within}
 use Rattle.chapter11.proofs.Sources.{not_packet, no_room, not_fill, composed}
 use Rattle.chapter11.proofs.compose.Goals as goal

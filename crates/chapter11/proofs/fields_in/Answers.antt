@@ -1,6 +1,6 @@
 -- `chapter11::fields_in` meets its contract.
 -- Assumes nothing.
-use Rattle.std.proofs.Common.{arith, rules}
+use Rattle.std.proofs.Common.{arith}
 use Rattle.chapter11.proofs.Packets.{is}
 use Rattle.chapter11.proofs.Sources.{fields_is}
 use Rattle.chapter11.proofs.fields_in.Goals as goal

@@ -1,7 +1,6 @@
 -- `chapter11::write_packet` meets its contract: five pieces, one after the other, are the packet.
 -- Assumes nothing.
 use Rattle.chapter11.proofs.Sources.{packet_put}
-use Rattle.std.proofs.Common.{rules}
 use Rattle.chapter11.proofs.write_packet.Goals as goal
 
 pub returns : goal.returns

@@ -1,6 +1,6 @@
 -- `chapter11::write_source` meets its contract: four pieces, one after the other, are the source packet.
 -- Assumes nothing.
-use Rattle.std.proofs.Common.{ap, ◌∙◌, arith, rules}
+use Rattle.std.proofs.Common.{ap, ◌∙◌, arith}
 use Rattle.chapter11.specs.Source.{protected}
 use Rattle.chapter11.proofs.Packets.{within}
 use Rattle.chapter11.proofs.Sources.{source_put}

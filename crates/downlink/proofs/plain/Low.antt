@@ -1,15 +1,11 @@
 -- The low-latency part, read as a list of bytes (document 01, "Layouts", "Receiver", and 11, 16; R-2).
 -- Assumes nothing.
-use Prim.Native.Nat.{ℕ, zero, suc, ◌+◌, min}
+use Prim.Native.Nat.{ℕ, zero, suc, ◌+◌}
 use mathlib.Core.Path.{refl}
-use mathlib.Core.Bool.{Bool, true, false, cond}
+use mathlib.Core.Bool.{cond}
 use mathlib.Core.Option.{Option, none, some}
 use mathlib.Core.List.{List, [], ◌∷◌, ◌++◌}
-use lib.Dec.{ltb}
-use lib.ListN.{length, take, drop, get_or}
-use Rattle.golay.specs.declared.End.{End}
-use Rattle.golay.specs.declared.End.TheVariants.{Zeros, Ones, Neither}
-use Rattle.golay.specs.Answers.{end_of, end_flips}
+use lib.ListN.{length, take, drop}
 use Rattle.wire.specs.declared.Header.{Header}
 use Rattle.wire.specs.Reading.{header_of}
 use Rattle.receiver.specs.declared.kind.Kind.{Kind}

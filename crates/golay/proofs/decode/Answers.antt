@@ -1,7 +1,6 @@
 -- `golay::decode` meets its contract: a word of syndrome 0 is intact; of any other the bits that differ from the code word that
 -- it is mended to are the flips. Assumes nothing.
 use mathlib.Core.Path.{sym, subst, ◌∙◌}
-use borrow.Author.Rules.{rules}
 use Rattle.golay.specs.Answers.{Mends}
 use Rattle.golay.proofs.Decoder.{intact}
 use Rattle.golay.proofs.decode.Goals as goal
@@ -16,4 +15,4 @@ returns-in_default c = subst (Mends _) c.in_default.is c.mend.ensures
 pub returns : goal.returns
 unfolding Mends
 returns c =
-        rw c.places_to.ensures (subst (Mends _) c.in-Word.is c.mend.ensures)
+    rw c.places_to.ensures (subst (Mends _) c.in-Word.is c.mend.ensures)

@@ -1,6 +1,5 @@
 -- `golay::encode` meets its contract: the number, then its parity. Assumes nothing.
 use Rattle.golay.specs.Golay.{code_word}
-use borrow.Author.Rules.{rules}
 use Rattle.golay.proofs.encode.Goals as goal
 
 pub returns : goal.returns

@@ -1,7 +1,6 @@
 -- `golay::end_flips` meets its contract: the nearer end byte is that of the fewer bits.
 -- Assumes nothing.
 use native.Mathlib.Omega.{arith}
-use borrow.Author.Rules.{rules}
 use Rattle.golay.proofs.Ends.{flips_few, flips_many, most}
 use Rattle.golay.proofs.end_flips.Goals as goal
 

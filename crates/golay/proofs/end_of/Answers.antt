@@ -1,6 +1,5 @@
 -- `golay::end_of` meets its contract: the count of ones decides.
 -- Assumes nothing.
-use native.Mathlib.Nat.{lt_of_not-le}
 use native.Mathlib.Omega.{arith}
 use Rattle.golay.proofs.Ends.{at_most_three, at_least_five, just_four}
 use Rattle.golay.proofs.end_of.Goals as goal

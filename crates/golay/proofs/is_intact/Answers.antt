@@ -1,6 +1,5 @@
 -- `golay::is_intact` meets its contract.
 -- Assumes nothing.
-use borrow.Author.Rules.{rules}
 use Rattle.golay.proofs.Decoder.{same_halves}
 use Rattle.golay.proofs.is_intact.Goals as goal
 

@@ -1,6 +1,5 @@
 -- `golay::mend` meets its contract: the table's entry is the one for the word's syndrome.
 -- Assumes nothing.
-use borrow.Author.Rules.{rules}
 use Rattle.golay.proofs.Decoder.{syndrome_lt}
 use Rattle.golay.proofs.mend.Goals as goal
 

@@ -2,7 +2,6 @@
 use mathlib.Core.Path.{ap}
 use Prim.Native.Nat.{◌%◌, ◌^◌}
 use lib.Bits.{bit_xor}
-use borrow.Author.Rules.{rules}
 use Rattle.golay.proofs.places_to.Goals as goal
 
 pub returns : goal.returns

@@ -1,6 +1,5 @@
 -- `golay::said` meets its contract: the entry says what to flip, and how many flips there are.
 -- Assumes nothing.
-use borrow.Author.Rules.{rules}
 use Rattle.golay.proofs.Decoder.{mends, none_near}
 use Rattle.golay.proofs.said.Goals as goal
 

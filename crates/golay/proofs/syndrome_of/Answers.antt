@@ -1,6 +1,5 @@
 -- `golay::syndrome_of` meets its contract.
 -- Assumes nothing.
-use borrow.Author.Rules.{rules}
 use Rattle.golay.specs.Golay.{syndrome}
 use Rattle.golay.proofs.syndrome_of.Goals as goal
 

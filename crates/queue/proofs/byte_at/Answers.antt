@@ -6,7 +6,6 @@ use Rattle.queue.specs.Ring.{held}
 use Rattle.queue.proofs.Runs.{place_in}
 use Rattle.queue.proofs.Puts.{length_held}
 use Rattle.queue.proofs.Takes.{byte_is}
-use borrow.Author.Rules.{rules}
 use Rattle.queue.proofs.byte_at.Goals as goal
 
 pub returns-then-q-i : goal.returns-then-q-i

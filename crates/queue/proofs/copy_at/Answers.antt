@@ -1,7 +1,6 @@
 -- `queue::copy_at` meets its contract: one run of what there is place for. Assumes nothing.
 use mathlib.Core.Path.{ap, ◌∙◌}
 use lib.Seq.{paste}
-use borrow.Author.Rules.{rules}
 use Rattle.queue.proofs.copy_at.Goals as goal
 
 pub returns : goal.returns

@@ -1,10 +1,9 @@
 -- `queue::fill_at` meets its contract: the first i bytes are written. The measure is what is left of k. Assumes nothing.
 use lib.ListN.{set}
 use mathlib.Core.Path.{◌≡◌, refl, sym, ap, ◌∙◌}
-use Prim.Native.Nat.{◌+◌, ◌-◌, ◌≤◌, min}
+use Prim.Native.Nat.{◌+◌, ◌-◌, min}
 use native.Mathlib.Numerals.{add-one}
 use native.Mathlib.Omega.{arith}
-use borrow.Author.Rules.{rules}
 use lib.ListN.{length, length-set, length-replicate, replicate, get_or-replicate}
 use lib.Seq.{paste, paste-zero, paste-suc}
 use Rattle.queue.proofs.fill_at.Goals as goal

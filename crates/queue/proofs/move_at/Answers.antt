@@ -1,7 +1,6 @@
 -- `queue::move_at` meets its contract: one run of what there is place for, whichever makes it. Assumes nothing.
 use mathlib.Core.Path.{ap, ◌∙◌}
 use lib.Seq.{paste}
-use borrow.Author.Rules.{rules}
 use Rattle.queue.proofs.move_at.Goals as goal
 
 pub returns-then-k-gt65536 : goal.returns-then-k-gt65536

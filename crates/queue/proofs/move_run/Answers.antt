@@ -1,6 +1,5 @@
 -- `queue::move_run` meets its contract, by the law of a paste by way of another list. Assumes nothing.
 use Rattle.queue.proofs.Copies.{paste_by}
-use borrow.Author.Rules.{rules}
 use Rattle.queue.proofs.move_run.Goals as goal
 
 pub returns : goal.returns

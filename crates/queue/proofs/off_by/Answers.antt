@@ -1,7 +1,6 @@
 -- `queue::off_by` meets its contract: the head before the buffer's end, or past it. Assumes nothing.
 use native.Mathlib.Omega.{arith}
 use Rattle.queue.proofs.Takes.{off_within, off_past}
-use borrow.Author.Rules.{rules}
 use Rattle.queue.proofs.off_by.Goals as goal
 
 pub returns-then-n-cap : goal.returns-then-n-cap

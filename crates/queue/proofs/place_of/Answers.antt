@@ -1,6 +1,5 @@
 -- `queue::place_of` meets its contract: past the buffer's end, or before it. Assumes nothing.
 use Rattle.queue.proofs.Runs.{place_past, place_before}
-use borrow.Author.Rules.{rules}
 use Rattle.queue.proofs.place_of.Goals as goal
 
 pub returns-then-first-i : goal.returns-then-first-i

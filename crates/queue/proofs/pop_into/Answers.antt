@@ -1,10 +1,8 @@
 -- `queue::pop_into` meets its contract: refused at one of three tests, or taken. Assumes nothing.
 use mathlib.Core.Path.{sym, ◌∙◌}
 use native.Mathlib.Omega.{arith}
-use borrow.Author.Tests.{not-true, not-false}
 use Rattle.queue.proofs.Puts.{kept_is}
 use Rattle.queue.proofs.Takes.{place_is, pop_forged, pop_few, pop_beyond, pop_done, in_part}
-use borrow.Author.Rules.{rules}
 use Rattle.queue.proofs.pop_into.Goals as goal
 
 pub returns-then-not-is_kept : goal.returns-then-not-is_kept

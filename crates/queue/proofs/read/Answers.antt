@@ -1,7 +1,6 @@
 -- `queue::read` meets its contract, by the laws of one run and of two. Assumes nothing.
 use native.Mathlib.Omega.{arith}
 use Rattle.queue.proofs.Runs.{read_one, read_two}
-use borrow.Author.Rules.{rules}
 use Rattle.queue.proofs.read.Goals as goal
 
 pub returns-then-n-first : goal.returns-then-n-first

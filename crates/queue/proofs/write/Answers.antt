@@ -1,6 +1,5 @@
 -- `queue::write` meets its contract, by the law of its two runs. Assumes nothing.
 use Rattle.queue.proofs.Runs.{write_runs}
-use borrow.Author.Rules.{rules}
 use Rattle.queue.proofs.write.Goals as goal
 
 pub returns : goal.returns

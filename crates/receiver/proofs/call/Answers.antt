@@ -4,7 +4,6 @@ use borrow.Author.Rules.{rules}
 use Rattle.receiver.proofs.Answering.{call_gives, call_reads, call_refused, call_six, reads_of}
 use Rattle.receiver.proofs.Calling.{refused_gives, same_gives}
 use Rattle.receiver.specs.Call.{counted_of, stage_call}
-use Rattle.receiver.proofs.call.Reads as reads
 use Rattle.receiver.proofs.call.Goals as goal
 
 pub returns-then-room-r : goal.returns-then-room-r

@@ -1,6 +1,5 @@
 -- `receiver::fresh` meets its contract: out of step, with nothing begun.
 -- Assumes nothing.
-use borrow.Author.Rules.{rules}
 use native.Mathlib.Omega.{arith}
 use Rattle.receiver.proofs.fresh.Goals as goal
 

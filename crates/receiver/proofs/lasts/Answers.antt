@@ -1,6 +1,5 @@
 -- `receiver::lasts` meets its contract: the find's case decides.
 -- Assumes nothing.
-use borrow.Author.Rules.{rules}
 use Rattle.receiver.proofs.lasts.Goals as goal
 
 pub returns-in-Notice : goal.returns-in-Notice

@@ -1,6 +1,5 @@
 -- `receiver::next` meets its contract: the call by the receiver's own count.
 -- Assumes nothing.
-use borrow.Author.Rules.{rules}
 use Rattle.receiver.specs.Call.{call_of}
 use Rattle.receiver.proofs.next.Goals as goal
 

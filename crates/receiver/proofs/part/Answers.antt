@@ -1,10 +1,8 @@
 -- `receiver::part` meets its contract: a clamped start and length take what `take` and `drop` take.
 -- Assumes nothing.
-use borrow.Author.Rules.{rules}
 use Rattle.receiver.proofs.Gather.{part_is}
 use Rattle.receiver.proofs.part.Goals as goal
 
--- src/lib.rt:132:1
 pub returns : goal.returns
 returns c =
     let a = c.args in

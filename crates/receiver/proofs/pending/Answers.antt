@@ -1,6 +1,5 @@
 -- `receiver::pending` meets its contract: what is kept first.
 -- Assumes nothing.
-use borrow.Author.Rules.{rules}
 use Rattle.receiver.proofs.pending.Goals as goal
 
 pub returns-in-Empty : goal.returns-in-Empty

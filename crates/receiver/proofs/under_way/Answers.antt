@@ -1,6 +1,5 @@
 -- `receiver::under_way` meets its contract: a header or an EP.
 -- Assumes nothing.
-use borrow.Author.Rules.{rules}
 use borrow.Author.Tests.{ne_eqb}
 use Rattle.receiver.proofs.under_way.Goals as goal
 

@@ -1,13 +1,11 @@
 -- `sender::draw` meets its contract: another buffer, fill alone, or what `filled` ensures. Assumes nothing.
 use mathlib.Core.Path.{sym, ◌∙◌}
 use native.Mathlib.Omega.{arith}
-use borrow.Author.Tests.{not-true, not-false}
 use Rattle.queue.specs.Ring.{held}
 use Rattle.queue.proofs.Puts.{length_held}
 use Rattle.sender.proofs.Heads.{over_none}
 use Rattle.sender.proofs.Offers.{lent_low, lent_ordinary}
 use Rattle.sender.proofs.Drawn.{kept_low, draw_1, draw_done}
-use borrow.Author.Rules.{rules}
 use Rattle.sender.proofs.draw.Goals as goal
 
 pub returns-then-not-is_lent : goal.returns-then-not-is_lent

@@ -1,12 +1,14 @@
 -- `sender::filled` meets its contract: each refusal, or a TP by the laws `finished` and `still-sound`. Assumes nothing.
-use mathlib.Core.Path.{refl, sym, ap, ◌∙◌}
-use mathlib.Core.Logic.{⊎_elim}
+use mathlib.Core.Path.{◌≡◌, refl, sym, ap, ◌∙◌}
+use mathlib.Core.Bool.{false}
+use Rattle.queue.specs.Ring.{held}
+use Rattle.sender.specs.Drawing.{overwritten}
 use native.Mathlib.Omega.{arith}
 use lib.ListN.{length}
 use Rattle.sender.specs.Answers.{refused}
 use Rattle.sender.proofs.Drawn.{kept_low, kept_own, space_most, gone_few, drawn_length, finished, still_sound, looked_over, looked_well, looked_empty, is_lent, draw_overwritten, draw_5, draw_done}
-use borrow.Author.Rules.{rules}
 use Rattle.sender.proofs.filled.Goals as goal
+use Rattle.sender.proofs.filled.Goals.{then-l-gt0+else-at-eq4, else-l-gt0}
 
 pub shape_of-tp-then-at-eq4 : goal.shape_of-tp-then-at-eq4
 shape_of-tp-then-at-eq4 c = c.low_part-p.ensures.same
@@ -30,7 +32,11 @@ returns-then-tp-g c =
     let e = is_lent a.s.setting (length a.low.now) (length a.ordinary.now) c.requires.low_len.0 c.requires.low_len.1 in
     let k = c.low_part-p.ensures in
     let kl = kept_low a.s w a.low.now c.requires.low_len.0 in
-    let no = ⊎_elim (λ h. looked_well a.s.setting.payload a.low.now a.s.low a.tp.now _ _ _ k kl h.0.taken h.1.left) (λ h. looked_empty a.s.setting.payload a.low.now a.s.low a.tp.now _ _ _ k kl h.left) c.if-l-gt0.branch in
+    let no : overwritten a.s.setting.payload (held a.low.now a.s.low) ≡ false =
+    elim c.if-l-gt0.branch [
+      | then-l-gt0+else-at-eq4 w ↦ looked_well a.s.setting.payload a.low.now a.s.low a.tp.now _ _ _ k kl w.if-l-gt0.true w.if-at-eq4.false
+      | else-l-gt0 w ↦ looked_empty a.s.setting.payload a.low.now a.s.low a.tp.now _ _ _ k kl w.if-l-gt0.false
+    ] in
     record { tp_after = ap (refused 5) (k.other (λ f. c.if-tp-g.true (k.same ∙ f))) ∙ draw_5 a.s a.low.now a.ordinary.now a.tp.now e no (λ f. c.if-tp-g.true (k.same ∙ f)); sound_answer = tt }
 
 pub ordinary_part-o-requires : goal.ordinary_part-o-requires
@@ -120,6 +126,10 @@ returns c =
     let o = c.ordinary_part-o.ensures in
     let e = is_lent a.s.setting (length a.low.now) (length a.ordinary.now) c.requires.low_len.0 c.requires.low_len.1 in
     let kl = kept_low a.s w a.low.now c.requires.low_len.0 in
-    let no = ⊎_elim (λ h. looked_well a.s.setting.payload a.low.now a.s.low a.tp.now _ _ _ k kl h.0.taken h.1.left) (λ h. looked_empty a.s.setting.payload a.low.now a.s.low a.tp.now _ _ _ k kl h.left) c.if-l-gt0.branch in
+    let no : overwritten a.s.setting.payload (held a.low.now a.s.low) ≡ false =
+    elim c.if-l-gt0.branch [
+      | then-l-gt0+else-at-eq4 w ↦ looked_well a.s.setting.payload a.low.now a.s.low a.tp.now _ _ _ k kl w.if-l-gt0.true w.if-at-eq4.false
+      | else-l-gt0 w ↦ looked_empty a.s.setting.payload a.low.now a.s.low a.tp.now _ _ _ k kl w.if-l-gt0.false
+    ] in
     let f = finished a.s w a.low.now a.ordinary.now a.tp.now _ _ _ _ _ _ _ c.requires.low_len.0 c.requires.low_len.1 ed p o _ _ _ _ _ c.offset_of-offset.ensures refl c.tp_header_of-h.ensures c.copy_at.ensures c.rest_after-rest.ensures.0 in
     record { tp_after = draw_done a.s a.low.now a.ordinary.now a.tp.now e no _ ed f; sound_answer = still_sound a.s w a.low.now a.ordinary.now a.tp.now _ _ _ _ _ _ _ c.requires.low_len.0 c.requires.low_len.1 ed p o _ c.rest_after-rest.ensures.1 }

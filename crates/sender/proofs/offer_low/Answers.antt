@@ -3,13 +3,11 @@ use mathlib.Core.Path.{refl, sym, ap, subst, ◌∙◌}
 use Prim.Native.Nat.{◌-◌}
 use native.Mathlib.Omega.{arith}
 use lib.ListN.{length}
-use borrow.Author.Tests.{not-true, not-false}
 use Rattle.wire.proofs.Laws.{ep_length}
 use Rattle.sender.specs.Opening.{Sound}
 use Rattle.sender.proofs.Puts.{put_as}
 use Rattle.sender.proofs.Pieces.{one_piece}
 use Rattle.sender.proofs.Offers.{lent_low, fine_is, low_1, low_no, low_put, low_sound}
-use borrow.Author.Rules.{rules}
 use Rattle.sender.proofs.offer_low.Goals as goal
 
 pub returns-then-not-is_lent : goal.returns-then-not-is_lent

@@ -2,10 +2,8 @@
 use mathlib.Core.Path.{sym, subst, ◌∙◌}
 use Prim.Native.Nat.{◌-◌}
 use native.Mathlib.Omega.{arith}
-use borrow.Author.Tests.{not-true, not-false}
 use Rattle.sender.specs.Opening.{Sound}
 use Rattle.sender.proofs.Offers.{lent_ordinary, fine_is, ordinary_1, ordinary_no, ordinary_put, ordinary_sound}
-use borrow.Author.Rules.{rules}
 use Rattle.sender.proofs.offer_ordinary.Goals as goal
 
 pub returns-then-not-is_lent : goal.returns-then-not-is_lent

@@ -1,6 +1,5 @@
 -- `sender::only_fill` meets its contract, by the laws `fill-drawn` and `fill-sound`. Assumes nothing.
 use Rattle.sender.proofs.Drawn.{fill_drawn, fill_sound}
-use borrow.Author.Rules.{rules}
 use Rattle.sender.proofs.only_fill.Goals as goal
 
 pub returns : goal.returns

@@ -1,11 +1,9 @@
 -- `sender::open` meets its contract: each refusal in turn, or a fresh sender. Assumes nothing.
 use mathlib.Core.Path.{sym, ◌∙◌}
 use native.Mathlib.Omega.{arith}
-use borrow.Author.Tests.{not-true, not-false}
 use lib.ListN.{length}
 use Rattle.wire.proofs.Allowing.{limits}
 use Rattle.sender.proofs.Opens.{open_not, open_low, open_ordinary, open_done, open_sound}
-use borrow.Author.Rules.{rules}
 use Rattle.sender.proofs.open.Goals as goal
 
 pub returns-then-not-is_allowed : goal.returns-then-not-is_allowed

@@ -1,7 +1,6 @@
 -- `wire::header_of` meets its contract: both code words at once, each as three bytes.
 -- Assumes nothing.
 use Rattle.wire.specs.Wire.{word, first_number, header}
-use borrow.Author.Rules.{rules}
 use Rattle.wire.proofs.header_of.Goals as goal
 
 pub returns : goal.returns

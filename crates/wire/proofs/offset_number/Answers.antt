@@ -2,7 +2,6 @@
 -- Assumes nothing.
 use Rattle.wire.specs.Wire.{offset_number}
 use native.Mathlib.Omega.{arith}
-use borrow.Author.Rules.{rules}
 use Rattle.wire.proofs.offset_number.Goals as goal
 
 pub returns-then-low : goal.returns-then-low

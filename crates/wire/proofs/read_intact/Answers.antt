@@ -2,7 +2,6 @@
 -- Assumes nothing.
 use mathlib.Core.Path.{sym, ◌∙◌}
 use Rattle.wire.proofs.Answers.{both-intact, first-flipped, second-flipped}
-use borrow.Author.Rules.{rules}
 use Rattle.wire.proofs.read_intact.Goals as goal
 
 pub returns-then-is_intact-2 : goal.returns-then-is_intact-2

@@ -2,7 +2,6 @@
 -- Assumes nothing.
 use mathlib.Core.Path.{sym, ◌∙◌}
 use Rattle.wire.proofs.Answers.{word-beyond, word-intact, word_says}
-use borrow.Author.Rules.{rules}
 use Rattle.wire.proofs.read_tp_word.Goals as goal
 
 pub returns-then-s-eq0 : goal.returns-then-s-eq0
@@ -10,7 +9,7 @@ returns-then-s-eq0 c = c.says.ensures ∙ word-intact c.args.bytes (sym c.syndro
 
 pub returns-in-Word : goal.returns-in-Word
 returns-in-Word c =
-        c.says-in-Word.ensures ∙ word_says _ _ c.mend.ensures c.in-Word.number c.in-Word.flips c.in-Word.is
+    c.says-in-Word.ensures ∙ word_says _ _ c.mend.ensures c.in-Word.number c.in-Word.flips c.in-Word.is
 
 pub returns-in-Beyond : goal.returns-in-Beyond
 returns-in-Beyond c = word-beyond _ _ c.mend.ensures c.in-Beyond.is

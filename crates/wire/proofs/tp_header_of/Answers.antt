@@ -1,7 +1,6 @@
 -- `wire::tp_header_of` meets its contract.
 -- Assumes nothing.
 use Rattle.wire.specs.Wire.{word, stream_byte, tp_header}
-use borrow.Author.Rules.{rules}
 use Rattle.wire.proofs.tp_header_of.Goals as goal
 
 pub returns : goal.returns

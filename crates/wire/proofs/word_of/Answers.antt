@@ -1,7 +1,6 @@
 -- `wire::word_of` meets its contract.
 -- Assumes nothing.
 use Rattle.wire.specs.Wire.{word}
-use borrow.Author.Rules.{rules}
 use Rattle.wire.proofs.word_of.Goals as goal
 
 pub returns : goal.returns

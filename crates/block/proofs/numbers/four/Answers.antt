@@ -5,7 +5,6 @@ use mathlib.Core.Path.{ap, ◌∙◌}
 use Rattle.block.specs.Block.{placed}
 use Rattle.block.specs.Decimal.{padded}
 use Rattle.block.proofs.Straight.{two_more}
-use borrow.Author.Rules.{rules}
 use Rattle.block.proofs.numbers.four.Goals as goal
 
 pub returns : goal.returns

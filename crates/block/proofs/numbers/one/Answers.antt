@@ -2,7 +2,6 @@
 -- Assumes nothing.
 use native.Mathlib.Omega.{arith}
 use Rattle.block.proofs.Straight.{one_set}
-use borrow.Author.Rules.{rules}
 use Rattle.block.proofs.numbers.one.Goals as goal
 
 pub returns : goal.returns

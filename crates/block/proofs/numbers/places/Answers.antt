@@ -2,7 +2,7 @@
 -- Assumes nothing.
 use native.Mathlib.Omega.{arith}
 use borrow.Author.Rules.{rules}
-use Rattle.block.proofs.Decimals.{Counted, count_none, count_one, count_few, count_all_lem}
+use Rattle.block.proofs.Decimals.{count_none, count_one, count_few, count_all_lem}
 use Rattle.block.proofs.numbers.places.Goals as goal
 
 pub loop-rest-init : goal.loop-rest-init

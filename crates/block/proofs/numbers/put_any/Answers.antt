@@ -8,7 +8,6 @@ use Rattle.block.specs.Block.{placed}
 use Rattle.block.specs.Decimal.{decimal}
 use Rattle.block.proofs.Decimals.{decimal_some}
 use Rattle.block.proofs.Laws.{fits, misfits, block_of}
-use borrow.Author.Rules.{rules}
 use Rattle.block.proofs.numbers.put_any.Goals as goal
 
 pub returns-then-out-at : goal.returns-then-out-at

@@ -2,7 +2,6 @@
 -- Assumes nothing.
 use native.Mathlib.Omega.{arith}
 use Rattle.block.proofs.Straight.{one_digit, two_digits, three_digits, four_digits, as_put}
-use borrow.Author.Rules.{rules}
 use Rattle.block.proofs.numbers.put_four.Goals as goal
 
 pub returns-then-n-lt10 : goal.returns-then-n-lt10

@@ -4,7 +4,6 @@ use mathlib.Core.Path.{sym}
 use native.Mathlib.Omega.{arith}
 use Rattle.block.specs.Decimal.{decimal}
 use Rattle.block.proofs.Laws.{misfits}
-use borrow.Author.Rules.{rules}
 use Rattle.block.proofs.numbers.put_number.Goals as goal
 
 pub returns-then-out-at : goal.returns-then-out-at

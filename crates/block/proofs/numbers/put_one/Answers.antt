@@ -6,7 +6,6 @@ use Rattle.block.specs.Decimal.{decimal}
 use Rattle.block.proofs.Decimals.{decimal_some}
 use Rattle.block.proofs.Laws.{misfits}
 use Rattle.block.proofs.Straight.{one_digit, as_put}
-use borrow.Author.Rules.{rules}
 use Rattle.block.proofs.numbers.put_one.Goals as goal
 
 pub returns-then-out-at : goal.returns-then-out-at

@@ -2,7 +2,6 @@
 -- Assumes nothing.
 use native.Mathlib.Omega.{arith}
 use Rattle.block.proofs.Straight.{four_fit, joined_four}
-use borrow.Author.Rules.{rules}
 use Rattle.block.proofs.numbers.put_roomy.Goals as goal
 
 pub four-requires : goal.four-requires

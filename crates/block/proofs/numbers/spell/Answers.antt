@@ -1,11 +1,11 @@
 -- `numbers::spell` meets its contract: each turn writes the last digit that is left, and then one is left.
 -- Assumes nothing.
 use Prim.Native.Nat.{◌+◌, ◌%◌}
-use mathlib.Core.Path.{◌≡◌, refl, ◌∙◌}
+use mathlib.Core.Path.{refl, ◌∙◌}
 use native.Mathlib.Omega.{arith}
-use lib.ListN.{length, length-set}
+use lib.ListN.{length-set}
 use borrow.Author.Rules.{rules}
-use Rattle.block.proofs.Decimals.{decimal_some, Spelt, spelt_none, spelt_in, spelt_on, spelt_one, spelt_all}
+use Rattle.block.proofs.Decimals.{decimal_some, spelt_none, spelt_in, spelt_on, spelt_one, spelt_all}
 use Rattle.block.proofs.numbers.spell.Goals as goal
 
 pub overflow_sub-i : goal.overflow_sub-i

@@ -1,11 +1,8 @@
 -- `numbers::spell` meets its contract: each turn writes the last digit that is left, and then one is left.
 -- Assumes nothing.
-use Prim.Native.Nat.{◌+◌, ◌%◌}
-use mathlib.Core.Path.{◌≡◌, refl, ◌∙◌}
-use native.Mathlib.Omega.{arith}
-use lib.ListN.{length, length-set}
-use borrow.Author.Rules.{rules}
-use Rattle.block.proofs.Decimals.{decimal_some, Spelt, spelt_none, spelt_in, spelt_on, spelt_one, spelt_all}
+use mathlib.Core.Path.{◌≡◌}
+use lib.ListN.{length}
+use Rattle.block.proofs.Decimals.{Spelt}
 use Rattle.block.proofs.numbers.spell.Given as goal
 
 abbrev pub invariant-loop-rest : goal.invariant-loop-rest

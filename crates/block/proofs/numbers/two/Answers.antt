@@ -1,10 +1,9 @@
 -- `numbers::two` meets its contract: two bytes are written, the pair's.
 -- Assumes nothing.
 use Prim.Native.Nat.{◌+◌}
-use mathlib.Core.Path.{ap, ap₂, ◌∙◌}
+use mathlib.Core.Path.{ap₂, ◌∙◌}
 use lib.ListN.{set}
 use Rattle.block.proofs.Straight.{next_in, two_set, pair_first, pair_second}
-use borrow.Author.Rules.{rules}
 use Rattle.block.proofs.numbers.two.Goals as goal
 
 pub bounds-out-at-2 : goal.bounds-out-at-2

@@ -1,7 +1,7 @@
 -- `chapter11::packet::cut_of` meets its contract.
 -- Assumes nothing.
 use Rattle.chapter11.proofs.Packets.{is, cut_is}
-use Rattle.std.proofs.Common.{arith, rules}
+use Rattle.std.proofs.Common.{arith}
 use Rattle.chapter11.proofs.packet.cut_of.Goals as goal
 
 pub bounds-p-14 : goal.bounds-p-14

@@ -1,6 +1,6 @@
 -- `chapter11::packet::header_for` meets its contract.
 -- Assumes nothing.
-use Rattle.std.proofs.Common.{refl, rules}
+use Rattle.std.proofs.Common.{refl}
 use Rattle.chapter11.proofs.Sources.{header_is}
 use Rattle.chapter11.proofs.packet.header_for.Goals as goal
 

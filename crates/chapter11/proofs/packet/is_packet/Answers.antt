@@ -1,6 +1,6 @@
 -- `chapter11::packet::is_packet` meets its contract: each return is by the first test that fails.
 -- Assumes nothing.
-use Rattle.std.proofs.Common.{sym, ◌∙◌, rules}
+use Rattle.std.proofs.Common.{sym, ◌∙◌}
 use Rattle.chapter11.proofs.Packets.{too_short, too_long, no_sync, other_length, wrong_sum, right_sum}
 use Rattle.chapter11.proofs.packet.is_packet.Goals as goal
 

@@ -1,8 +1,7 @@
 -- `chapter11::packet::is_zero` meets its contract: the bytes seen so far are zero, so the rest decides.
 -- Assumes nothing.
-use Rattle.std.proofs.Common.{◌≡◌, ◌-◌, ◌≤◌, length, drop, refl, arith, rules}
+use Rattle.std.proofs.Common.{◌≡◌, ◌-◌, ◌≤◌, length, drop}
 use Rattle.chapter11.specs.Packet.{all_zero}
-use Rattle.chapter11.proofs.Packets.{not_zero, still_zero, all_seen}
 use Rattle.chapter11.proofs.packet.is_zero.Given as goal
 
 abbrev pub invariant-loop-i : goal.invariant-loop-i

@@ -1,6 +1,6 @@
 -- `chapter11::packet::sum_of` meets its contract: after i words the sum is that of the first i.
 -- Assumes nothing.
-use Rattle.std.proofs.Common.{◌≡◌, ◌-◌, ◌≤◌, refl, ap, ◌∙◌, arith, rules}
+use Rattle.std.proofs.Common.{◌≡◌, refl, ap, ◌∙◌, arith, rules}
 use Rattle.chapter11.specs.Packet.{sum_of}
 use Rattle.chapter11.proofs.Packets.{next_sum}
 use Rattle.chapter11.proofs.packet.sum_of.Goals as goal

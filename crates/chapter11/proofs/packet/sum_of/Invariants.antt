@@ -1,8 +1,7 @@
 -- `chapter11::packet::sum_of` meets its contract: after i words the sum is that of the first i.
 -- Assumes nothing.
-use Rattle.std.proofs.Common.{◌≡◌, ◌-◌, ◌≤◌, refl, ap, ◌∙◌, arith, rules}
+use Rattle.std.proofs.Common.{◌≡◌, ◌-◌, ◌≤◌}
 use Rattle.chapter11.specs.Packet.{sum_of}
-use Rattle.chapter11.proofs.Packets.{next_sum}
 use Rattle.chapter11.proofs.packet.sum_of.Given as goal
 
 abbrev pub invariant-loop-i : goal.invariant-loop-i

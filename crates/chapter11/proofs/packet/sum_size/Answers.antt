@@ -1,6 +1,6 @@
 -- `chapter11::packet::sum_size` meets its contract.
 -- Assumes nothing.
-use Rattle.std.proofs.Common.{rules, eq-eqb, ne_eqb}
+use Rattle.std.proofs.Common.{eq-eqb, ne_eqb}
 use Rattle.chapter11.proofs.packet.sum_size.Goals as goal
 
 pub returns-then-kind-eq3 : goal.returns-then-kind-eq3

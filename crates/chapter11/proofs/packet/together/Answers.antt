@@ -1,6 +1,6 @@
 -- `chapter11::packet::together` meets its contract.
 -- Assumes nothing.
-use Rattle.std.proofs.Common.{get_or, arith, rules}
+use Rattle.std.proofs.Common.{get_or, arith}
 use Rattle.chapter11.proofs.Packets.{sum_size_most}
 use Rattle.chapter11.proofs.packet.together.Goals as goal
 

@@ -1,6 +1,6 @@
 -- `chapter11::packet::two_at` meets its contract.
 -- Assumes nothing.
-use Rattle.std.proofs.Common.{◌+◌, arith, rules}
+use Rattle.std.proofs.Common.{◌+◌, arith}
 use Rattle.chapter11.proofs.packet.two_at.Goals as goal
 
 pub overflow_cast-result : goal.overflow_cast-result

@@ -2,7 +2,6 @@
 -- Assumes nothing.
 use Rattle.wire.specs.Wire.{word}
 use Rattle.chapter11.specs.Source.{protected}
-use Rattle.std.proofs.Common.{rules}
 use Rattle.chapter11.proofs.words.protect.Goals as goal
 
 pub returns : goal.returns

@@ -4,7 +4,6 @@ use mathlib.Core.Path.{◌≡◌, subst}
 use Prim.Native.Nat.{ℕ, ◌+◌, ◌<◌}
 use Rattle.golay.specs.Golay.{syndrome}
 use native.Mathlib.Omega.{arith}
-use borrow.Author.Rules.{rules}
 use lib.ListN.{get_or}
 use Rattle.golay.specs.Answers.{Enters}
 use Rattle.golay.proofs.Decoder.{syndrome_lt}

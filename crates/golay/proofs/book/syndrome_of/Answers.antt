@@ -2,7 +2,6 @@
 -- Assumes nothing.
 use native.Mathlib.Nat.{mod-lt}
 use lib.Dec.{lit<}
-use borrow.Author.Rules.{rules}
 use Rattle.golay.specs.Golay.{low, syndrome}
 use Rattle.golay.proofs.book.syndrome_of.Goals as goal
 

@@ -1,11 +1,11 @@
 -- `book::write` meets its contract: after i turns the first i of each table stand in the book. The measure is what is left of 4096.
 -- Assumes nothing.
 use mathlib.Core.Path.{◌≡◌, sym, subst, ◌∙◌}
-use Prim.Native.Nat.{ℕ, ◌-◌, ◌≤◌}
+use Prim.Native.Nat.{ℕ}
 use native.Mathlib.Nat.{le_antisymm}
 use native.Mathlib.Omega.{arith}
 use borrow.Author.Rules.{rules}
-use lib.ListN.{length, length-set}
+use lib.ListN.{length-set}
 use Rattle.golay.proofs.Filling.{Filled, none_yet, all, one_more}
 use Rattle.golay.proofs.book.write.Goals as goal
 

@@ -1,6 +1,5 @@
 -- `checks::number` meets its contract: the two lookups' sum. Assumes nothing.
 use mathlib.Core.Path.{refl}
-use borrow.Author.Rules.{rules}
 use Rattle.golay.specs.Golay.{six, checks}
 use Rattle.golay.proofs.Lookups.{in_two}
 use Rattle.golay.proofs.checks.number.Goals as goal

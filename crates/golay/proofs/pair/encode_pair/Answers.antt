@@ -1,6 +1,5 @@
 -- `pair::encode_pair` meets its contract: each number, then its parity. Assumes nothing.
 use Rattle.golay.specs.Golay.{code_word}
-use borrow.Author.Rules.{rules}
 use Rattle.golay.proofs.pair.encode_pair.Goals as goal
 
 pub returns : goal.returns

@@ -1,6 +1,5 @@
 -- `parities::parity` meets its contract: the three lookups' sum. Assumes nothing.
 use mathlib.Core.Path.{refl}
-use borrow.Author.Rules.{rules}
 use Rattle.golay.specs.Golay.{four, rows}
 use Rattle.golay.proofs.Lookups.{in_three}
 use Rattle.golay.proofs.parities.parity.Goals as goal

@@ -1,6 +1,5 @@
 -- `house::head::head_of` meets its contract: each byte is what its callee ensures.
 -- Assumes nothing.
-use borrow.Author.Rules.{rules}
 use Rattle.house.proofs.head.head_of.Goals as goal
 
 pub returns : goal.returns

@@ -2,7 +2,6 @@
 -- Assumes nothing.
 use borrow.Author.Tests.{le-leb, lt-leb}
 use native.Mathlib.Omega.{arith}
-use borrow.Author.Rules.{rules}
 use Rattle.house.proofs.head.is_read.Goals as goal
 
 pub returns-in-Start : goal.returns-in-Start

@@ -4,7 +4,6 @@ use mathlib.Core.Path.{ap, sym, ◌∙◌}
 use native.Mathlib.Omega.{arith}
 use Rattle.house.specs.Records.{judged_of}
 use Rattle.house.proofs.Slicing.{tp_head}
-use borrow.Author.Rules.{rules}
 use Rattle.house.proofs.head.judge.Goals as goal
 
 pub returns-in-Sending : goal.returns-in-Sending

@@ -3,7 +3,6 @@
 use native.Mathlib.Omega.{arith}
 use Rattle.house.specs.Records.{judged_of}
 use Rattle.house.proofs.Slicing.{other_first, other_second}
-use borrow.Author.Rules.{rules}
 use Rattle.house.proofs.head.judge_bytes.Goals as goal
 
 pub returns-then-s : goal.returns-then-s

@@ -2,7 +2,6 @@
 -- Assumes nothing.
 use native.Mathlib.Omega.{arith}
 use Rattle.house.proofs.Slicing.{draw_head, ordinary_head, low_head_lem}
-use borrow.Author.Rules.{rules}
 use Rattle.house.proofs.head.judge_sending.Goals as goal
 
 pub returns-then-length-eq0 : goal.returns-then-length-eq0

@@ -1,9 +1,7 @@
 -- `house::head::rule` meets its contract: at each return the tests that led there say which case holds.
 -- Assumes nothing.
 use mathlib.Core.Path.{sym, ◌∙◌}
-use borrow.Author.Tests.{not-true, not-false}
 use Rattle.house.specs.Records.{ruled}
-use borrow.Author.Rules.{rules}
 use Rattle.house.proofs.head.rule.Goals as goal
 
 pub returns-then-not-is_read : goal.returns-then-not-is_read

@@ -1,9 +1,8 @@
 -- `house::setups::read_setup` meets its contract: at each return the tests that led there say which case holds.
 -- Assumes nothing.
 use mathlib.Core.Path.{sym, ◌∙◌}
-use borrow.Author.Tests.{eq-eqb, ne_eqb, not-true, not-false}
+use borrow.Author.Tests.{eq-eqb, ne_eqb}
 use Rattle.house.specs.Setups.{settings_of}
-use borrow.Author.Rules.{rules}
 use Rattle.house.proofs.setups.read_setup.Goals as goal
 
 pub returns-then-data-ne5 : goal.returns-then-data-ne5

@@ -1,7 +1,6 @@
 -- `house::whole::data_of` meets its contract: what the slice has of the data is returned.
 -- Assumes nothing.
 use Rattle.house.proofs.Slicing.{no_data, all_behind, as_said}
-use borrow.Author.Rules.{rules}
 use Rattle.house.proofs.whole.data_of.Goals as goal
 
 pub returns-then-s-lt8 : goal.returns-then-s-lt8

@@ -2,7 +2,6 @@
 -- Assumes nothing.
 use mathlib.Core.Path.{sym}
 use Rattle.house.proofs.Slicing.{too_short, cut_short, is_bad, is_whole_lem}
-use borrow.Author.Rules.{rules}
 use Rattle.house.proofs.whole.read_record.Goals as goal
 
 pub returns-then-s-lt8 : goal.returns-then-s-lt8

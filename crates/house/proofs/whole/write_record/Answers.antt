@@ -1,10 +1,8 @@
 -- `house::whole::write_record` meets its contract: head and data, put one after the other, are the record.
 -- Assumes nothing.
 use mathlib.Core.Path.{ap, sym, ◌∙◌}
-use borrow.Author.Tests.{not-true, not-false}
 use Rattle.block.specs.Block.{put}
 use Rattle.house.proofs.Slicing.{other_length, no_room, both_put}
-use borrow.Author.Rules.{rules}
 use Rattle.house.proofs.whole.write_record.Goals as goal
 
 pub returns-then-data-length_of : goal.returns-then-data-length_of

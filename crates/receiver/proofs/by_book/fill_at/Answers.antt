@@ -2,7 +2,6 @@
 -- Assumes nothing.
 use native.Mathlib.Omega.{arith}
 use Rattle.receiver.proofs.Standing.{fill_kind, header_stands, stands_of}
-use borrow.Author.Rules.{rules}
 use Rattle.receiver.proofs.by_book.fill_at.Goals as goal
 
 pub returns : goal.returns

@@ -2,7 +2,6 @@
 -- Assumes nothing.
 use mathlib.Core.Path.{◌∙◌, ap}
 use Rattle.wire.specs.Reading.{header_in, read_of}
-use borrow.Author.Rules.{rules}
 use Rattle.receiver.proofs.by_book.read_at.Goals as goal
 
 pub returns : goal.returns

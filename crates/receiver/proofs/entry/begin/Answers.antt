@@ -1,6 +1,5 @@
 -- `receiver::entry::begin` meets its contract: each stage is a clause of the call's definition.
 -- Assumes nothing.
-use borrow.Author.Rules.{rules}
 use Rattle.receiver.proofs.TakingUp.{due_begins, first_begins, first_lent, low_begins, plain_begins}
 use Rattle.receiver.proofs.entry.begin.Goals as goal
 

@@ -1,6 +1,5 @@
 -- `receiver::entry::drop_all` meets its contract: out of step, the TP dropped.
 -- Assumes nothing.
-use borrow.Author.Rules.{rules}
 use Rattle.receiver.proofs.entry.drop_all.Goals as goal
 
 pub returns : goal.returns

@@ -1,6 +1,5 @@
 -- `receiver::entry::first` meets its contract: which find, or where the payload begins.
 -- Assumes nothing.
-use borrow.Author.Rules.{rules}
 use Rattle.receiver.proofs.TakingUp.{top_begins}
 use mathlib.Core.Path.{sym, ◌∙◌}
 use Rattle.receiver.proofs.entry.first.Goals as goal

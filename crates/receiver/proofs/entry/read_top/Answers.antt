@@ -2,7 +2,6 @@
 -- Assumes nothing.
 use mathlib.Core.Path.{sym, ◌∙◌}
 use Rattle.receiver.proofs.TakingUp.{top_eight, top_nine, top_says, top_seven}
-use borrow.Author.Rules.{rules}
 use Rattle.receiver.proofs.entry.read_top.Goals as goal
 
 pub returns-then-b-stream : goal.returns-then-b-stream

@@ -1,7 +1,6 @@
 -- `receiver::entry::tp_word` meets its contract: three bytes behind the first.
 -- Assumes nothing.
 use mathlib.Core.Path.{◌∙◌}
-use borrow.Author.Rules.{rules}
 use Rattle.receiver.proofs.Gather.{three_of}
 use Rattle.receiver.proofs.entry.tp_word.Goals as goal
 

@@ -1,7 +1,6 @@
 -- `receiver::judge::admit` meets its contract: each kind is one of the definition's cases.
 -- Assumes nothing.
 use mathlib.Core.Path.{sym, ◌∙◌}
-use borrow.Author.Rules.{rules}
 use Rattle.receiver.proofs.judge.admit.Goals as goal
 
 pub returns-in-Fill : goal.returns-in-Fill
@@ -14,7 +13,7 @@ pub returns-in-Complete : goal.returns-in-Complete
 returns-in-Complete c = simp (sym c.kind_of.ensures ∙ c.in-Complete.is, c.fits.ensures)
 
 pub returns-in-First : goal.returns-in-First
-returns-in-First c = simp (sym c.kind_of.ensures ∙ c.in-First.is, c.fits3.ensures)
+returns-in-First c = simp (sym c.kind_of.ensures ∙ c.in-First.is, c.fits-in-First.ensures)
 
 pub returns-in-Middle : goal.returns-in-Middle
 returns-in-Middle c = simp (sym c.kind_of.ensures ∙ c.in-Middle.is, c.further.ensures)

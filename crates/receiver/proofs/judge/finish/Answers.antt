@@ -1,7 +1,6 @@
 -- `receiver::judge::finish` meets its contract: each kind is one of the definition's cases.
 -- Assumes nothing.
 use mathlib.Core.Path.{sym, ◌∙◌}
-use borrow.Author.Rules.{rules}
 use Rattle.receiver.proofs.judge.finish.Goals as goal
 
 pub returns-in-Fill : goal.returns-in-Fill

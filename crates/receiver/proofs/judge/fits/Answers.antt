@@ -1,6 +1,5 @@
 -- `receiver::judge::fits` meets its contract: 15 if the room has no place.
 -- Assumes nothing.
-use borrow.Author.Rules.{rules}
 use borrow.Author.Tests.{le-leb, lt-leb}
 use Rattle.receiver.specs.Turns.{fits_of}
 use Rattle.receiver.proofs.judge.fits.Goals as goal

@@ -1,7 +1,6 @@
 -- `receiver::judge::further` meets its contract: the two cases of what is kept.
 -- Assumes nothing.
 use native.Mathlib.Omega.{arith}
-use borrow.Author.Rules.{rules}
 use Rattle.receiver.proofs.judge.further.Goals as goal
 
 pub fits-requires : goal.fits-requires

@@ -1,6 +1,5 @@
 -- `receiver::judge::handed` meets its contract: the two cases of what is kept.
 -- Assumes nothing.
-use borrow.Author.Rules.{rules}
 use Rattle.receiver.proofs.judge.handed.Goals as goal
 
 pub returns-in-Empty : goal.returns-in-Empty

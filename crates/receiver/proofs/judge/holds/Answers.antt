@@ -1,6 +1,5 @@
 -- `receiver::judge::holds` meets its contract: the two cases of what is kept.
 -- Assumes nothing.
-use borrow.Author.Rules.{rules}
 use Rattle.receiver.proofs.judge.holds.Goals as goal
 
 pub returns-in-Of : goal.returns-in-Of

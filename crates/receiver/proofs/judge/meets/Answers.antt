@@ -1,6 +1,5 @@
 -- `receiver::judge::meets` meets its contract: each kind is one of the definition's cases.
 -- Assumes nothing.
-use borrow.Author.Rules.{rules}
 use Rattle.receiver.proofs.judge.meets.Goals as goal
 
 pub returns-in-Middle : goal.returns-in-Middle

@@ -2,7 +2,6 @@
 -- Assumes nothing.
 use mathlib.Core.Path.{sym, ◌∙◌}
 use Rattle.receiver.specs.Turns.{opened_of}
-use borrow.Author.Rules.{rules}
 use Rattle.receiver.proofs.judge.opened.Goals as goal
 
 pub returns-then-meets : goal.returns-then-meets

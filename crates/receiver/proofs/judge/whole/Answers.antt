@@ -2,7 +2,6 @@
 -- Assumes nothing.
 use mathlib.Core.Path.{sym, ◌∙◌}
 use Rattle.wire.specs.Reading.{header_in}
-use borrow.Author.Rules.{rules}
 use Rattle.receiver.proofs.Gather.{beyond_read, whole_read}
 use Rattle.receiver.proofs.judge.whole.Goals as goal
 

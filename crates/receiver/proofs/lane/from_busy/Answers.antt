@@ -10,10 +10,10 @@ pub returns-then-rest-left : goal.returns-then-rest-left
 returns-then-rest-left c =
     let a = c.args in
     let e = sym c.least.ensures ∙ c.if-least-n.false in
-    busy_ends a.began a.left a.len a.content a.flips a.n a.at a.tp.now a.room.now _ c.requires.1 (λ i. omega (arith, c.shared_slice_known-1.given i)) c.requires.0 e c.move_at.ensures (search rules) c.if-rest-left.true
+    busy_ends a.began a.left a.len a.content a.flips a.n a.at a.tp.now a.room.now _ c.requires.1 (λ i. omega (arith, c.type_inv.tp i)) c.requires.0 e c.move_at.ensures (search rules) c.if-rest-left.true
 
 pub returns : goal.returns
 returns c =
     let a = c.args in
     let e = sym c.least.ensures ∙ c.if-least-n.false in
-    busy_gives a.began a.left a.len a.content a.flips a.n a.at a.tp.now a.room.now _ c.requires.1 (λ i. omega (arith, c.shared_slice_known-1.given i)) c.requires.0 e c.move_at.ensures (search rules) c.if-rest-left.false
+    busy_gives a.began a.left a.len a.content a.flips a.n a.at a.tp.now a.room.now _ c.requires.1 (λ i. omega (arith, c.type_inv.tp i)) c.requires.0 e c.move_at.ensures (search rules) c.if-rest-left.false

@@ -4,13 +4,12 @@ use native.Mathlib.Omega.{arith}
 use lib.ListN.{length}
 use Rattle.receiver.proofs.LaneAhead.{fits_of_lem}
 use Rattle.receiver.proofs.LaneOut.{cut_ends, cut_enters, cut_fill_lem, least_of, read_of_lem}
-use borrow.Author.Rules.{rules}
 use Rattle.receiver.proofs.lane.from_cut.Goals as goal
 
 pub returns-then-rest-missing : goal.returns-then-rest-missing
 returns-then-rest-missing c =
     let a = c.args in
-    cut_ends a.began a.have a.word a.n a.at a.tp.now a.room.now (c.requires.1, c.requires.2, c.requires.3) (λ i. omega (arith, c.shared_slice_known-1.given i)) (omega (arith, c.requires.0)) _ c.if-rest-missing.true c.if-n-rest.false c.gather.ensures
+    cut_ends a.began a.have a.word a.n a.at a.tp.now a.room.now (c.requires.1, c.requires.2, c.requires.3) (λ i. omega (arith, c.type_inv.tp i)) (omega (arith, c.requires.0)) _ c.if-rest-missing.true c.if-n-rest.false c.gather.ensures
 
 pub overflow_add-result-then-h-eq0-2 : goal.overflow_add-result-then-h-eq0-2
 overflow_add-result-then-h-eq0-2 c =
@@ -21,7 +20,7 @@ returns-then-h-eq0 c =
     let a = c.args in
     let e = read_of_lem a.have a.word a.at a.tp.now _ _ c.in-Whole.h c.gather-2.ensures c.read_header.ensures c.in-Whole.is in
     let l = least_of _ _ _ _ c.least.ensures c.if-missing-least.false in
-    cut_fill_lem a.began a.have a.word a.n a.at a.tp.now a.room.now (c.requires.1, c.requires.2, c.requires.3) (λ i. omega (arith, c.shared_slice_known-1.given i)) (omega (arith, c.requires.0)) c.in-Whole.h c.if-rest-missing.false e l c.if-h-eq0.true c.if-rest-missing-2.false
+    cut_fill_lem a.began a.have a.word a.n a.at a.tp.now a.room.now (c.requires.1, c.requires.2, c.requires.3) (λ i. omega (arith, c.type_inv.tp i)) (omega (arith, c.requires.0)) c.in-Whole.h c.if-rest-missing.false e l c.if-h-eq0.true c.if-rest-missing-2.false
 
 pub entered-requires : goal.entered-requires
 entered-requires c =
@@ -33,4 +32,4 @@ returns-then-fits c =
     let a = c.args in
     let e = read_of_lem a.have a.word a.at a.tp.now _ _ c.in-Whole.h c.gather-2.ensures c.read_header.ensures c.in-Whole.is in
     let l = least_of _ _ _ _ c.least.ensures c.if-missing-least.false in
-    cut_enters a.began a.have a.word a.n a.at a.tp.now a.room.now (c.requires.1, c.requires.2, c.requires.3) (λ i. omega (arith, c.shared_slice_known-1.given i)) (omega (arith, c.requires.0)) c.in-Whole.h c.if-rest-missing.false e l c.entered.result _ c.entered.ensures
+    cut_enters a.began a.have a.word a.n a.at a.tp.now a.room.now (c.requires.1, c.requires.2, c.requires.3) (λ i. omega (arith, c.type_inv.tp i)) (omega (arith, c.requires.0)) c.in-Whole.h c.if-rest-missing.false e l c.entered.result _ c.entered.ensures

@@ -5,7 +5,6 @@ use lib.ListN.{length}
 use Rattle.receiver.specs.declared.lane.Lane.TheVariants as L
 use Rattle.receiver.specs.declared.lane.Met.TheVariants as M
 use Rattle.receiver.proofs.LaneOut.{idle_reads, lane_as, lost_reads, lost_stays, tidy_as}
-use borrow.Author.Rules.{rules}
 use Rattle.receiver.proofs.lane.from_lane.Goals as goal
 
 pub returns-then-start-tp : goal.returns-then-start-tp

@@ -1,5 +1,4 @@
 -- `receiver::lane::in_lane` meets its contract. Assumes nothing.
-use borrow.Author.Rules.{rules}
 use Rattle.receiver.proofs.lane.in_lane.Goals as goal
 
 pub returns : goal.returns

@@ -1,7 +1,6 @@
 -- `receiver::lane::is_same` meets its contract: two places are one if their numbers are.
 -- Assumes nothing.
 use Rattle.receiver.proofs.Laned.{same_if}
-use borrow.Author.Rules.{rules}
 use Rattle.receiver.proofs.lane.is_same.Goals as goal
 
 pub returns : goal.returns

@@ -1,10 +1,8 @@
 -- `receiver::lane::kept_of` meets its contract: the data of a complete EP that are kept are a lane.
 -- Assumes nothing.
 use native.Mathlib.Omega.{arith}
-use borrow.Author.Tests.{not-false}
 use Rattle.receiver.proofs.LaneAhead.{fits_of_lem}
 use Rattle.receiver.proofs.Laned.{kept_busy, kept_roomy, same_of_lem}
-use borrow.Author.Rules.{rules}
 use Rattle.receiver.proofs.lane.kept_of.Goals as goal
 
 pub overflow_add-len : goal.overflow_add-len

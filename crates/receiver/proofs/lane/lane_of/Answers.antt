@@ -5,7 +5,6 @@ use Rattle.receiver.specs.declared.Stage.{Stage}
 use Rattle.receiver.specs.declared.walk.Kept.{Kept}
 use Rattle.receiver.specs.State.{Fine, Staged}
 use Rattle.receiver.proofs.Laned.{laned, walk_is}
-use borrow.Author.Rules.{rules}
 use Rattle.receiver.proofs.lane.lane_of.Goals as goal
 
 pub unkept-requires : goal.unkept-requires

@@ -6,7 +6,6 @@ use Prim.Native.Nat.{ℕ}
 use lib.ListN.{drop, drop_of_length-le}
 use Rattle.receiver.specs.Low.{llep}
 use Rattle.receiver.specs.Lows.{lows, lows_of}
-use borrow.Author.Rules.{rules}
 use Rattle.receiver.proofs.lane.lows.Goals as goal
 
 pub returns-then-tp-at : goal.returns-then-tp-at

@@ -4,7 +4,6 @@ use mathlib.Core.Path.{sym, ◌∙◌}
 use lib.ListN.{length}
 use Rattle.receiver.proofs.LaneOut.{out_outside}
 use Rattle.receiver.proofs.Parting.{behind_in}
-use borrow.Author.Rules.{rules}
 use Rattle.receiver.proofs.lane.set_out.Goals as goal
 
 pub from_lane-requires : goal.from_lane-requires

@@ -1,7 +1,6 @@
 -- `receiver::lane::top` meets its contract. Assumes nothing.
 use lib.ListN.{length}
 use borrow.Author.Tests.{eq-eqb, ne_eqb}
-use borrow.Author.Rules.{rules}
 use Rattle.receiver.proofs.lane.top.Goals as goal
 
 pub returns-then-tp-r : goal.returns-then-tp-r

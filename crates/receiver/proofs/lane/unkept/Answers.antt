@@ -1,7 +1,6 @@
 -- `receiver::lane::unkept` meets its contract: with nothing kept, by the phase.
 -- Assumes nothing.
 use Rattle.receiver.proofs.Laned.{unkept_cut, unkept_idle}
-use borrow.Author.Rules.{rules}
 use Rattle.receiver.proofs.lane.unkept.Goals as goal
 
 pub returns-then-have-eq0 : goal.returns-then-have-eq0

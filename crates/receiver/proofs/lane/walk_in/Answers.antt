@@ -1,6 +1,5 @@
 -- `receiver::lane::walk_in` meets its contract. Assumes nothing.
 use native.Mathlib.Omega.{arith}
-use borrow.Author.Rules.{rules}
 use Rattle.receiver.proofs.lane.walk_in.Goals as goal
 
 pub overflow_add-header : goal.overflow_add-header

@@ -3,7 +3,6 @@
 use Prim.Native.Nat.{ℕ, ◌-◌, ◌≤◌, min}
 use native.Mathlib.Omega.{arith}
 use lib.Count.{ones_in}
-use borrow.Author.Rules.{rules}
 use Rattle.golay.specs.Answers.{end_flips}
 use Rattle.receiver.proofs.low.counted.Goals as goal
 

@@ -2,7 +2,6 @@
 -- Assumes nothing.
 use mathlib.Core.Path.{refl, sym, ◌∙◌}
 use native.Mathlib.Omega.{arith}
-use borrow.Author.Rules.{rules}
 use Rattle.receiver.proofs.Walking.{item_beyond, item_short, item_whole, read_few}
 use Rattle.receiver.proofs.low.item.Goals as goal
 

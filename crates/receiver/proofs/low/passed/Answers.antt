@@ -2,7 +2,6 @@
 -- Assumes nothing.
 use Rattle.receiver.specs.Kind.{kind_of}
 use Rattle.receiver.proofs.Walking.{passed_by_lem}
-use borrow.Author.Rules.{rules}
 use Rattle.receiver.proofs.low.passed.Goals as goal
 
 pub returns-in-More : goal.returns-in-More

@@ -1,7 +1,6 @@
 -- `receiver::low::repaired` meets its contract: a total for a packet alone.
 -- Assumes nothing.
 use mathlib.Core.Path.{sym, ◌∙◌}
-use borrow.Author.Rules.{rules}
 use Rattle.receiver.proofs.low.repaired.Goals as goal
 
 pub returns-in-Fill : goal.returns-in-Fill

@@ -1,7 +1,6 @@
 -- `receiver::low::told` meets its contract: each kind is one of the definition's cases.
 -- Assumes nothing.
 use mathlib.Core.Path.{sym, ◌∙◌}
-use borrow.Author.Rules.{rules}
 use Rattle.receiver.proofs.low.told.Goals as goal
 
 pub returns-in-Fill : goal.returns-in-Fill

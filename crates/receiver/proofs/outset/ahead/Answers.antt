@@ -1,6 +1,5 @@
 -- `receiver::outset::ahead` meets its contract: the three clauses of the forecast at a header.
 -- Assumes nothing.
-use borrow.Author.Rules.{rules}
 use borrow.Author.Tests.{eq-eqb, le-ltb, lt-ltb, ne_eqb}
 use Rattle.receiver.specs.InOutset.{ahead_of}
 use Rattle.receiver.proofs.outset.ahead.Goals as goal

@@ -1,7 +1,6 @@
 -- `receiver::outset::behind` meets its contract: the two answers of the header code.
 -- Assumes nothing.
 use mathlib.Core.Path.{sym, ◌∙◌}
-use borrow.Author.Rules.{rules}
 use Rattle.wire.specs.Reading.{header_in}
 use Rattle.receiver.proofs.Foretelling.{bad_fore, good_fore}
 use Rattle.receiver.proofs.outset.behind.Goals as goal

@@ -1,7 +1,6 @@
 -- `receiver::outset::forecast` meets its contract: the forecast in one step for each phase is the forecast byte by byte.
 -- Assumes nothing.
 use lib.ListN.{drop, length-drop}
-use borrow.Author.Rules.{rules}
 use Rattle.receiver.specs.Outset.{fore_of}
 use Rattle.receiver.proofs.Foretelling.{ahead_fore, body_fore, judged_fore}
 use Rattle.receiver.proofs.outset.forecast.Goals as goal

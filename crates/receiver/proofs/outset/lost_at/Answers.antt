@@ -1,6 +1,5 @@
 -- `receiver::outset::lost_at` meets its contract: which place the notice carries.
 -- Assumes nothing.
-use borrow.Author.Rules.{rules}
 use borrow.Author.Tests.{eq-eqb, ne_eqb}
 use Rattle.receiver.proofs.outset.lost_at.Goals as goal
 

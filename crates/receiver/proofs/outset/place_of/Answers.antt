@@ -2,7 +2,6 @@
 -- Assumes nothing.
 use borrow.Author.Tests.{eq-eqb, le-leb, le-ltb, lt-leb, lt-ltb, ne_eqb}
 use Rattle.receiver.specs.Outset.{place_of}
-use borrow.Author.Rules.{rules}
 use Rattle.receiver.proofs.outset.place_of.Goals as goal
 
 pub returns-then-offset-eq2047 : goal.returns-then-offset-eq2047

@@ -3,7 +3,6 @@
 use mathlib.Core.Path.{sym, ◌∙◌}
 use native.Mathlib.Omega.{arith}
 use Rattle.receiver.proofs.SettingOut.{set_agree, set_by, set_else}
-use borrow.Author.Rules.{rules}
 use Rattle.receiver.proofs.outset.set_out.Goals as goal
 
 pub forecast-requires : goal.forecast-requires

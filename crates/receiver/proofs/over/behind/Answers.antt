@@ -1,5 +1,4 @@
 -- `receiver::over::behind` meets its contract. Assumes nothing.
-use borrow.Author.Rules.{rules}
 use Rattle.receiver.proofs.over.behind.Goals as goal
 
 pub returns : goal.returns

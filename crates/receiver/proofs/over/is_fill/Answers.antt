@@ -1,7 +1,6 @@
 -- `receiver::over::is_fill` meets its contract.
 -- Assumes nothing.
 use Rattle.receiver.proofs.PassingOver.{fill_if}
-use borrow.Author.Rules.{rules}
 use Rattle.receiver.proofs.over.is_fill.Goals as goal
 
 pub returns : goal.returns

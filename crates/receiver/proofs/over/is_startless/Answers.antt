@@ -1,7 +1,6 @@
 -- `receiver::over::is_startless` meets its contract.
 -- Assumes nothing.
 use Rattle.receiver.proofs.PassingOver.{startless_if}
-use borrow.Author.Rules.{rules}
 use Rattle.receiver.proofs.over.is_startless.Goals as goal
 
 pub returns : goal.returns

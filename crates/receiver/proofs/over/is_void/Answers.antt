@@ -2,7 +2,6 @@
 -- Assumes nothing.
 use mathlib.Core.Path.{sym, ◌∙◌}
 use Rattle.receiver.proofs.PassingOver.{fill_void, startless_void}
-use borrow.Author.Rules.{rules}
 use Rattle.receiver.proofs.over.is_void.Goals as goal
 
 pub returns-then-six-eq0 : goal.returns-then-six-eq0

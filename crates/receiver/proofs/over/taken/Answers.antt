@@ -2,13 +2,12 @@
 -- Assumes nothing.
 use native.Mathlib.Omega.{arith}
 use Rattle.receiver.proofs.PassingOver.{has_kept, has_left, taken_fits, taken_is, taken_less, taken_put}
-use borrow.Author.Rules.{rules}
 use Rattle.receiver.proofs.over.taken.Goals as goal
 
 pub returns-in_default : goal.returns-in_default
 returns-in_default c =
     let a = c.args in
-    absurd (has_left a.r a.tp.now a.room.now c.requires.0 c.requires.1 c.requires.2 c.in_default.in_default-own.keys2)
+    absurd (has_left a.r a.tp.now a.room.now c.requires.0 c.requires.1 c.requires.2 c.in_default.not-Body)
 
 pub returns-in_default-kept : goal.returns-in_default-kept
 returns-in_default-kept c =

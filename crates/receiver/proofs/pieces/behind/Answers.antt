@@ -1,6 +1,5 @@
 -- `receiver::pieces::behind` meets its contract: an LLEP that is not broken.
 -- Assumes nothing.
-use borrow.Author.Rules.{rules}
 use Rattle.receiver.proofs.pieces.behind.Goals as goal
 
 pub returns : goal.returns

@@ -2,7 +2,6 @@
 -- Assumes nothing.
 use mathlib.Core.Path.{ap, sym}
 use Rattle.receiver.specs.Pieces.{data_role}
-use borrow.Author.Rules.{rules}
 use Rattle.receiver.proofs.pieces.data_role.Goals as goal
 
 pub returns-in-Of : goal.returns-in-Of

@@ -1,6 +1,5 @@
 -- `receiver::pieces::drop_rest` meets its contract by what it calls.
 -- Assumes nothing.
-use borrow.Author.Rules.{rules}
 use Rattle.receiver.proofs.pieces.drop_rest.Goals as goal
 
 pub returns : goal.returns

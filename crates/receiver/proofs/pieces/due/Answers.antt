@@ -1,10 +1,7 @@
 -- `receiver::pieces::due` meets its contract: the outset.
 -- Assumes nothing.
-use borrow.Author.Rules.{rules}
 use Rattle.receiver.proofs.Piecing.{due_turn_lem}
 use Rattle.receiver.proofs.Parting.{behind_in}
-use Prim.Native.Nat.{◌≤◌}
-use native.Mathlib.Omega.{arith}
 use lib.ListN.{length}
 use mathlib.Core.Path.{sym, ◌∙◌}
 use Rattle.receiver.proofs.pieces.due.Goals as goal

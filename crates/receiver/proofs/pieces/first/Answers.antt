@@ -1,6 +1,5 @@
 -- `receiver::pieces::first` meets its contract: the TP's header.
 -- Assumes nothing.
-use borrow.Author.Rules.{rules}
 use Rattle.receiver.proofs.Piecing.{top_turn_lem}
 use lib.ListN.{length}
 use mathlib.Core.Path.{sym, ◌∙◌}

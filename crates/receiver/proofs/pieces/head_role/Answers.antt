@@ -2,7 +2,6 @@
 -- Assumes nothing.
 use mathlib.Core.Path.{ap, sym}
 use Rattle.receiver.specs.Pieces.{head_role}
-use borrow.Author.Rules.{rules}
 use Rattle.receiver.proofs.pieces.head_role.Goals as goal
 
 pub returns-in-Judged : goal.returns-in-Judged

@@ -1,6 +1,5 @@
 -- `receiver::pieces::llep` meets its contract: one LLEP with its end byte.
 -- Assumes nothing.
-use borrow.Author.Rules.{rules}
 use Rattle.receiver.proofs.Walking.{inside_at}
 use Rattle.receiver.proofs.Piecing.{llep_turn_lem}
 use lib.ListN.{length}

@@ -1,6 +1,5 @@
 -- `receiver::pieces::on` meets its contract: a piece without a find.
 -- Assumes nothing.
-use borrow.Author.Rules.{rules}
 use Rattle.receiver.proofs.pieces.on.Goals as goal
 
 pub returns : goal.returns

@@ -1,6 +1,5 @@
 -- `receiver::pieces::plain` meets its contract: a turn among ordinary bytes, as a piece.
 -- Assumes nothing.
-use borrow.Author.Rules.{rules}
 use Rattle.receiver.proofs.Piecing.{plain_turn}
 use mathlib.Core.Path.{sym, ◌∙◌}
 use Rattle.receiver.proofs.pieces.plain.Goals as goal

@@ -1,6 +1,5 @@
 -- `receiver::pieces::read` meets its contract by what it calls.
 -- Assumes nothing.
-use borrow.Author.Rules.{rules}
 use Rattle.receiver.proofs.pieces.read.Goals as goal
 
 pub returns : goal.returns

@@ -1,6 +1,5 @@
 -- `receiver::pieces::same` meets its contract: nothing is read.
 -- Assumes nothing.
-use borrow.Author.Rules.{rules}
 use Rattle.receiver.proofs.pieces.same.Goals as goal
 
 pub returns : goal.returns

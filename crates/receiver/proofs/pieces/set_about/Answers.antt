@@ -1,6 +1,5 @@
 -- `receiver::pieces::set_about` meets its contract: what the forecast decided, as a piece.
 -- Assumes nothing.
-use borrow.Author.Rules.{rules}
 use Rattle.receiver.proofs.Piecing.{out_turn_lem}
 use lib.ListN.{length}
 use mathlib.Core.Path.{sym, ◌∙◌}

@@ -2,7 +2,6 @@
 -- Assumes nothing.
 use mathlib.Core.Path.{refl}
 use Rattle.receiver.proofs.Serially.{leaves_by}
-use borrow.Author.Rules.{rules}
 use Rattle.receiver.proofs.series.behind.Goals as goal
 
 pub returns-in-Stops : goal.returns-in-Stops

@@ -1,7 +1,6 @@
 -- `receiver::series::course_of` meets its contract: in data that the TP's end cuts, or between two EPs.
 -- Assumes nothing.
 use Rattle.receiver.proofs.Serially.{runs_cut, runs_whole}
-use borrow.Author.Rules.{rules}
 use Rattle.receiver.proofs.series.course_of.Goals as goal
 
 pub returns-then-left-gt0 : goal.returns-then-left-gt0

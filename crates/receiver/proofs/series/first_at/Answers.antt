@@ -2,7 +2,6 @@
 -- Assumes nothing.
 use Rattle.receiver.proofs.Serially.{first_kind}
 use Rattle.receiver.proofs.Standing.{intact_of, stands_of}
-use borrow.Author.Rules.{rules}
 use Rattle.receiver.proofs.series.first_at.Goals as goal
 
 pub returns : goal.returns

@@ -34,4 +34,4 @@ returns c =
     let e = c.receiver_in-r.ensures in
     let b = busy_by (receiver_in a.w.now) _ e _ _ _ _ _ _ c.in-Fresh.is c.in-Body.is c.in-Of.is in
     let d = behind_of_lem _ _ a.tp.now _ c.begin.ensures c.in-Behind.is in
-    goes_on (receiver_in a.w.now) a.tp.now c.requires.0 a.room.now _ c.requires.1 (search rules) (λ i. omega (arith, c.shared_slice_known-1.given i)) _ _ _ _ _ _ _ _ b (rw e at d) c.if-n-left.false (rw e at c.counted.ensures) c.move_at.ensures c.if-header-lt1.false c.if-header-gt2.false c.if-content-lt1.false c.if-repaired-gt4294967295.false
+    goes_on (receiver_in a.w.now) a.tp.now c.requires.0 a.room.now _ c.requires.1 (search rules) (λ i. omega (arith, c.type_inv.tp i)) _ _ _ _ _ _ _ _ b (rw e at d) c.if-n-left.false (rw e at c.counted.ensures) c.move_at.ensures c.if-header-lt1.false c.if-header-gt2.false c.if-content-lt1.false c.if-repaired-gt4294967295.false

@@ -4,7 +4,6 @@ use mathlib.Core.Logic.{inl, inr}
 use native.Mathlib.Omega.{arith}
 use Rattle.receiver.proofs.Serially.{last_kind}
 use Rattle.receiver.proofs.Standing.{intact_of, middle_kind, stands_of}
-use borrow.Author.Rules.{rules}
 use Rattle.receiver.proofs.series.later_at.Goals as goal
 
 pub overflow_sub-tp : goal.overflow_sub-tp

@@ -21,4 +21,4 @@ pub returns : goal.returns
 returns c =
     let a = c.args in
     let f = first_of _ _ _ _ _ c.first_at.ensures c.in-Whole.is in
-    opened (receiver_in a.w.now) a.tp.now c.requires.1.0 a.room.now _ c.requires.1.1 (search rules) (λ i. omega (arith, c.shared_slice_known-1.given i)) (get_or a.w.now 4 0) (receiver_in a.w.now).walk.began (words_plain a.w.now c.requires.0 c.if-w-ne1.false c.if-w-ne0.false c.requires.2 c.if-w-ne3.false) (words_between a.w.now c.requires.0 c.if-w-ne1.false c.if-w-ne0.false c.requires.2) _ (words_count a.w.now) _ c.past_fill-from.ensures _ f _ c.least-n.ensures c.move_at.ensures _ (rw (c.of.ensures, c.own.ensures)) _ _ refl refl
+    opened (receiver_in a.w.now) a.tp.now c.requires.1.0 a.room.now _ c.requires.1.1 (search rules) (λ i. omega (arith, c.type_inv.tp i)) (get_or a.w.now 4 0) (receiver_in a.w.now).walk.began (words_plain a.w.now c.requires.0 c.if-w-ne1.false c.if-w-ne0.false c.requires.2 c.if-w-ne3.false) (words_between a.w.now c.requires.0 c.if-w-ne1.false c.if-w-ne0.false c.requires.2) _ (words_count a.w.now) _ c.past_fill-from.ensures _ f _ c.least-n.ensures c.move_at.ensures _ (rw (c.of.ensures, c.own.ensures)) _ _ refl refl

@@ -8,12 +8,12 @@ use Rattle.receiver.proofs.series.run.Goals as goal
 pub returns-then-at-tp : goal.returns-then-at-tp
 returns-then-at-tp c =
     let a = c.args in
-    run_ends a.tp.now (λ i. omega (arith, c.shared_slice_known-1.given i)) a.start a.content a.first a.room.now _ (search rules) _ _ c.past_middles-joined.ensures c.if-at-tp.true
+    run_ends a.tp.now (λ i. omega (arith, c.type_inv.tp i)) a.start a.content a.first a.room.now _ (search rules) _ _ c.past_middles-joined.ensures c.if-at-tp.true
 
 pub returns-in_default : goal.returns-in_default
 returns-in_default c =
     let a = c.args in
-    run_stops a.tp.now (λ i. omega (arith, c.shared_slice_known-1.given i)) a.start a.content a.first a.room.now _ (search rules) _ _ c.past_middles-joined.ensures
+    run_stops a.tp.now (λ i. omega (arith, c.type_inv.tp i)) a.start a.content a.first a.room.now _ (search rules) _ _ c.past_middles-joined.ensures
 
 pub overflow_sub-tp : goal.overflow_sub-tp
 overflow_sub-tp c = let f = later_of _ _ _ _ _ _ c.later_at.ensures c.in-Whole.is in omega (arith, f.0.six)
@@ -28,24 +28,24 @@ pub overflow_add-result : goal.overflow_add-result
 overflow_add-result c =
     let a = c.args in
     let f = later_of _ _ _ _ _ _ c.later_at.ensures c.in-Whole.is in
-    let g = run_fits a.tp.now (λ i. omega (arith, c.shared_slice_known-1.given i)) a.start a.content a.first a.room.now _ (search rules) _ _ c.past_middles-joined.ensures _ f _ c.least-n.ensures _ c.move_at.ensures in
+    let g = run_fits a.tp.now (λ i. omega (arith, c.type_inv.tp i)) a.start a.content a.first a.room.now _ (search rules) _ _ c.past_middles-joined.ensures _ f _ c.least-n.ensures _ c.move_at.ensures in
     omega (arith, g, c.well_formed.1.1.1.1.0.0)
 
 pub returns-then-n-h : goal.returns-then-n-h
 returns-then-n-h c =
     let a = c.args in
     let f = later_of _ _ _ _ _ _ c.later_at.ensures c.in-Whole.is in
-    run_cut a.tp.now (λ i. omega (arith, c.shared_slice_known-1.given i)) a.start a.content a.first a.room.now _ (search rules) _ _ c.past_middles-joined.ensures _ f _ c.least-n.ensures _ c.move_at.ensures c.if-n-h.true
+    run_cut a.tp.now (λ i. omega (arith, c.type_inv.tp i)) a.start a.content a.first a.room.now _ (search rules) _ _ c.past_middles-joined.ensures _ f _ c.least-n.ensures _ c.move_at.ensures c.if-n-h.true
 
 pub overflow_add-result-2 : goal.overflow_add-result-2
 overflow_add-result-2 c =
     let a = c.args in
     let f = later_of _ _ _ _ _ _ c.later_at.ensures c.in-Whole.is in
-    let g = run_fits a.tp.now (λ i. omega (arith, c.shared_slice_known-1.given i)) a.start a.content a.first a.room.now _ (search rules) _ _ c.past_middles-joined.ensures _ f _ c.least-n.ensures _ c.move_at.ensures in
+    let g = run_fits a.tp.now (λ i. omega (arith, c.type_inv.tp i)) a.start a.content a.first a.room.now _ (search rules) _ _ c.past_middles-joined.ensures _ f _ c.least-n.ensures _ c.move_at.ensures in
     omega (arith, g, c.well_formed.1.1.1.1.0.0)
 
 pub returns : goal.returns
 returns c =
     let a = c.args in
     let f = later_of _ _ _ _ _ _ c.later_at.ensures c.in-Whole.is in
-    run_whole a.tp.now (λ i. omega (arith, c.shared_slice_known-1.given i)) a.start a.content a.first a.room.now _ (search rules) _ _ c.past_middles-joined.ensures _ f _ c.least-n.ensures _ c.move_at.ensures c.if-n-h.false
+    run_whole a.tp.now (λ i. omega (arith, c.type_inv.tp i)) a.start a.content a.first a.room.now _ (search rules) _ _ c.past_middles-joined.ensures _ f _ c.least-n.ensures _ c.move_at.ensures c.if-n-h.false

@@ -1,6 +1,5 @@
 -- `receiver::stages::counted` meets its contract: a TP is counted at its first call.
 -- Assumes nothing.
-use borrow.Author.Rules.{rules}
 use Rattle.receiver.proofs.stages.counted.Goals as goal
 
 pub returns : goal.returns

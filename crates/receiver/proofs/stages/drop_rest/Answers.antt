@@ -1,6 +1,5 @@
 -- `receiver::stages::drop_rest` meets its contract: out of step, the rest dropped.
 -- Assumes nothing.
-use borrow.Author.Rules.{rules}
 use Rattle.receiver.proofs.stages.drop_rest.Goals as goal
 
 pub returns : goal.returns

@@ -1,6 +1,5 @@
 -- `receiver::stages::due` meets its contract: behind the low-latency part.
 -- Assumes nothing.
-use borrow.Author.Rules.{rules}
 use Rattle.receiver.proofs.Parting.{behind_in, due_behind, due_outside}
 use Prim.Native.Nat.{◌≤◌}
 use native.Mathlib.Omega.{arith}

@@ -1,6 +1,5 @@
 -- `receiver::stages::low_walk` meets its contract: without a low-latency part, its end is its place.
 -- Assumes nothing.
-use borrow.Author.Rules.{rules}
 use Rattle.receiver.proofs.stages.low_walk.Goals as goal
 
 pub returns-then-low : goal.returns-then-low

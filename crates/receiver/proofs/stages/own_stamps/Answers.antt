@@ -1,6 +1,5 @@
 -- `receiver::stages::own_stamps` meets its contract: by the receiver's own count.
 -- Assumes nothing.
-use borrow.Author.Rules.{rules}
 use Rattle.receiver.proofs.stages.own_stamps.Goals as goal
 
 pub returns : goal.returns

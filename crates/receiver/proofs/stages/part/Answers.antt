@@ -1,6 +1,5 @@
 -- `receiver::stages::part` meets its contract: the low-latency part, if there is one.
 -- Assumes nothing.
-use borrow.Author.Rules.{rules}
 use Rattle.receiver.proofs.Parting.{part_broken, part_due, part_gives, part_lent}
 use mathlib.Core.Path.{sym, ◌∙◌}
 use Rattle.receiver.proofs.stages.part.Goals as goal

@@ -1,6 +1,5 @@
 -- `receiver::stages::raised` meets its contract: a TP is counted at its first call.
 -- Assumes nothing.
-use borrow.Author.Rules.{rules}
 use Rattle.receiver.proofs.stages.raised.Goals as goal
 
 pub returns-in-Fresh : goal.returns-in-Fresh

@@ -1,8 +1,6 @@
 -- `receiver::stages::set_about` meets its contract: what the forecast decided, as a course.
 -- Assumes nothing.
-use borrow.Author.Rules.{rules}
 use Rattle.receiver.proofs.Parting.{set_loses, set_reads}
-use Rattle.receiver.proofs.stages.set_about.Reads as reads
 use Rattle.receiver.proofs.stages.set_about.Goals as goal
 
 pub returns-in-Reads : goal.returns-in-Reads

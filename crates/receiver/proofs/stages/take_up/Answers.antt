@@ -1,6 +1,5 @@
 -- `receiver::stages::take_up` meets its contract: where the call takes the TP up, as a course.
 -- Assumes nothing.
-use borrow.Author.Rules.{rules}
 use Rattle.receiver.proofs.TakingUp.{find_leads, part_at, part_leads, plain_leads}
 use Rattle.receiver.specs.Call.{counted_of, stage_call}
 use Rattle.receiver.proofs.stages.take_up.Goals as goal

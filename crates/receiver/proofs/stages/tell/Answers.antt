@@ -1,6 +1,5 @@
 -- `receiver::stages::tell` meets its contract: what the ordinary bytes gave.
 -- Assumes nothing.
-use borrow.Author.Rules.{rules}
 use Rattle.receiver.proofs.stages.tell.Goals as goal
 
 pub returns-in-Nothing : goal.returns-in-Nothing

@@ -1,6 +1,5 @@
 -- `receiver::stamps::of` meets its contract: the payload begins behind four bytes.
 -- Assumes nothing.
-use borrow.Author.Rules.{rules}
 use mathlib.Core.Path.{◌≡◌}
 use Prim.Native.Nat.{◌-◌}
 use native.Mathlib.Omega.{arith}

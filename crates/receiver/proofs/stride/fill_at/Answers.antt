@@ -2,7 +2,6 @@
 -- Assumes nothing.
 use native.Mathlib.Omega.{arith}
 use Rattle.receiver.proofs.Standing.{fill_kind, stands_of}
-use borrow.Author.Rules.{rules}
 use Rattle.receiver.proofs.stride.fill_at.Goals as goal
 
 pub overflow_sub-tp-2 : goal.overflow_sub-tp-2

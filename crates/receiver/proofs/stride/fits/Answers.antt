@@ -1,7 +1,6 @@
 -- `receiver::stride::fits` meets its contract.
 -- Assumes nothing.
 use Rattle.receiver.proofs.LaneAhead.{fits_if}
-use borrow.Author.Rules.{rules}
 use Rattle.receiver.proofs.stride.fits.Goals as goal
 
 pub returns : goal.returns

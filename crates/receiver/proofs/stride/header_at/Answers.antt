@@ -1,8 +1,6 @@
 -- `receiver::stride::header_at` meets its contract.
 -- Assumes nothing.
 use Rattle.receiver.proofs.Standing.{header_stands}
-use native.Mathlib.Omega.{arith}
-use borrow.Author.Rules.{rules}
 use Rattle.receiver.proofs.stride.header_at.Goals as goal
 
 pub returns : goal.returns

@@ -2,7 +2,6 @@
 -- Assumes nothing.
 use native.Mathlib.Omega.{arith}
 use Rattle.receiver.proofs.Standing.{intact_of, middle_kind, stands_of}
-use borrow.Author.Rules.{rules}
 use Rattle.receiver.proofs.stride.middle_at.Goals as goal
 
 pub overflow_sub-tp-2 : goal.overflow_sub-tp-2

@@ -2,7 +2,6 @@
 -- Assumes nothing.
 use lib.ListN.{length}
 use Rattle.receiver.proofs.Striding.{kept_in_lem, on_free, on_joined, stays}
-use borrow.Author.Rules.{rules}
 use Rattle.receiver.proofs.stride.on.Goals as goal
 
 pub returns-in_default : goal.returns-in_default

@@ -1,11 +1,7 @@
 -- `receiver::stride::past_fill` meets its contract: the invariant: the call asked for from here is the one asked for from the start. The measure is what is left of the TP.
 -- Assumes nothing.
 use mathlib.Core.Path.{refl}
-use Prim.Native.Nat.{◌-◌}
-use lib.ListN.{length}
 use native.Mathlib.Omega.{arith}
-use borrow.Author.Rules.{rules}
-use Rattle.receiver.specs.InStride.{Skips}
 use Rattle.receiver.proofs.Standing.{fill_of}
 use Rattle.receiver.proofs.Striding.{fill_skips, skips_none, skips_on}
 use Rattle.receiver.proofs.stride.past_fill.Goals as goal
@@ -32,7 +28,7 @@ loop-h-smaller c =
 
 pub loop-h-preserved : goal.loop-h-preserved
 loop-h-preserved c =
-    let f = fill_of _ _ _ _ c.fill_at.ensures c.in-Whole.is in let a = c.args in let l = c.loop-h in skips_on a.tp.now a.start l.at _ l.invariant (fill_skips a.tp.now (λ i. omega (arith, c.shared_slice_known-1.given i)) l.at _ _ f.0 f.1 refl)
+    let f = fill_of _ _ _ _ c.fill_at.ensures c.in-Whole.is in let a = c.args in let l = c.loop-h in skips_on a.tp.now a.start l.at _ l.invariant (fill_skips a.tp.now (λ i. omega (arith, c.type_inv.tp i)) l.at _ _ f.0 f.1 refl)
 
 pub returns : goal.returns
 returns c =

@@ -1,13 +1,8 @@
 -- `receiver::stride::past_fill` meets its contract: the invariant: the call asked for from here is the one asked for from the start. The measure is what is left of the TP.
 -- Assumes nothing.
-use mathlib.Core.Path.{refl}
 use Prim.Native.Nat.{◌-◌}
 use lib.ListN.{length}
-use native.Mathlib.Omega.{arith}
-use borrow.Author.Rules.{rules}
 use Rattle.receiver.specs.InStride.{Skips}
-use Rattle.receiver.proofs.Standing.{fill_of}
-use Rattle.receiver.proofs.Striding.{fill_skips, skips_none, skips_on}
 use Rattle.receiver.proofs.stride.past_fill.Given as goal
 
 abbrev pub invariant-loop-h : goal.invariant-loop-h

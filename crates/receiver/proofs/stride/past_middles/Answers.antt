@@ -1,11 +1,10 @@
 -- `receiver::stride::past_middles` meets its contract: the invariant: the call asked for from here, with what is kept, is the one asked for from the start. The measure is what is left of the TP.
 -- Assumes nothing.
 use mathlib.Core.Path.{refl, ◌≡◌}
-use Prim.Native.Nat.{◌+◌, ◌-◌}
+use Prim.Native.Nat.{◌+◌}
 use lib.ListN.{length}
 use native.Mathlib.Omega.{arith}
 use borrow.Author.Rules.{rules}
-use Rattle.receiver.specs.InStride.{Joins}
 use Rattle.receiver.proofs.Standing.{middle_of}
 use Rattle.receiver.proofs.Striding.{joins_none, joins_on, middle_joins, middle_put}
 use Rattle.receiver.proofs.stride.past_middles.Goals as goal
@@ -57,8 +56,8 @@ loop-h-preserved c =
     let r = c.loop-h.invariant.1.roomy in
     let z = c.loop-h.invariant.0 in
     let put = middle_put a.tp.now (length a.room.now) a.content l.room _ (l.at + 6) _ l.len (omega (arith, f.3)) (omega (arith, f.2)) c.move_at.ensures in
-    let n : length c.move_at.new.0 ≡ length a.room.now = search rules in
-    (n, joins_on a.tp.now (length a.room.now) a.content a.start a.first a.room.now l.at l.len l.room _ _ _ l.invariant.1 (middle_joins a.tp.now (length a.room.now) a.content (λ i. omega (arith, c.shared_slice_known-1.given i)) l.room _ z l.at l.len _ _ _ f.0 f.4 f.1 r (omega (arith, f.2)) f.3 refl refl put))
+    let n : length c.move_at.new.dst ≡ length a.room.now = search rules in
+    (n, joins_on a.tp.now (length a.room.now) a.content a.start a.first a.room.now l.at l.len l.room _ _ _ l.invariant.1 (middle_joins a.tp.now (length a.room.now) a.content (λ i. omega (arith, c.type_inv.tp i)) l.room _ z l.at l.len _ _ _ f.0 f.4 f.1 r (omega (arith, f.2)) f.3 refl refl put))
 
 pub returns : goal.returns
 returns c =

@@ -1,13 +1,9 @@
 -- `receiver::stride::past_middles` meets its contract: the invariant: the call asked for from here, with what is kept, is the one asked for from the start. The measure is what is left of the TP.
 -- Assumes nothing.
-use mathlib.Core.Path.{refl, ◌≡◌}
-use Prim.Native.Nat.{◌+◌, ◌-◌}
+use mathlib.Core.Path.{◌≡◌}
+use Prim.Native.Nat.{◌-◌}
 use lib.ListN.{length}
-use native.Mathlib.Omega.{arith}
-use borrow.Author.Rules.{rules}
 use Rattle.receiver.specs.InStride.{Joins}
-use Rattle.receiver.proofs.Standing.{middle_of}
-use Rattle.receiver.proofs.Striding.{joins_none, joins_on, middle_joins, middle_put}
 use Rattle.receiver.proofs.stride.past_middles.Given as goal
 
 abbrev pub invariant-loop-h : goal.invariant-loop-h

@@ -3,7 +3,6 @@
 use mathlib.Core.Path.{◌∙◌, ap}
 use Rattle.wire.specs.Reading.{header_in, read_of}
 use Rattle.receiver.proofs.LaneAhead.{intact_header}
-use borrow.Author.Rules.{rules}
 use Rattle.receiver.proofs.stride.read_at.Goals as goal
 
 pub returns-in_default : goal.returns-in_default

@@ -2,7 +2,6 @@
 -- Assumes nothing.
 use Rattle.receiver.proofs.LaneAhead.{fits_of_lem}
 use Rattle.receiver.proofs.Standing.{read_stands}
-use borrow.Author.Rules.{rules}
 use Rattle.receiver.proofs.stride.readable_at.Goals as goal
 
 pub returns-then-fits : goal.returns-then-fits

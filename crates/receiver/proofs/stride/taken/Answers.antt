@@ -2,7 +2,6 @@
 -- Assumes nothing.
 use mathlib.Core.Path.{◌∙◌}
 use Rattle.receiver.proofs.Standing.{taken_cut, taken_put, taken_whole}
-use borrow.Author.Rules.{rules}
 use Rattle.receiver.proofs.stride.taken.Goals as goal
 
 pub returns-then-n-size : goal.returns-then-n-size

@@ -1,7 +1,6 @@
 -- `receiver::swift::ahead` meets its contract: among ordinary bytes.
 -- Assumes nothing.
 use Rattle.receiver.proofs.OnWords.{on_reads}
-use borrow.Author.Rules.{rules}
 use Rattle.receiver.proofs.swift.ahead.Goals as goal
 
 pub returns : goal.returns

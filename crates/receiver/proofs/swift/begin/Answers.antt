@@ -4,7 +4,6 @@ use mathlib.Core.Path.{ap, sym, ◌∙◌}
 use mathlib.Core.Bool.{Bool}
 use Rattle.receiver.specs.declared.entry.Top.TheVariants.{Says}
 use Rattle.receiver.proofs.TakingUp.{says_small}
-use borrow.Author.Rules.{rules}
 use Rattle.receiver.proofs.swift.begin.Goals as goal
 
 pub place_of-requires : goal.place_of-requires

@@ -1,6 +1,5 @@
 -- `receiver::swift::between` meets its contract.
 -- Assumes nothing.
-use borrow.Author.Rules.{rules}
 use Rattle.receiver.proofs.swift.between.Goals as goal
 
 pub returns : goal.returns

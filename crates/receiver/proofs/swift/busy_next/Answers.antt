@@ -1,7 +1,6 @@
 -- `receiver::swift::busy_next` meets its contract: the TP's end cuts the data, or the packet is handed out.
 -- Assumes nothing.
 use mathlib.Core.Path.{refl, sym, ◌∙◌}
-use borrow.Author.Tests.{not-false}
 use native.Mathlib.Omega.{arith}
 use Rattle.receiver.proofs.Swiftly.{behind_of_lem, kept_cut, kept_in_lem, kept_whole}
 use borrow.Author.Rules.{rules}
@@ -18,7 +17,7 @@ returns-then-rest-left c =
     let a = c.args in
     let b = behind_of_lem _ a.r.stream a.tp.now _ c.begin.ensures c.in-Behind.is in
     let e = sym c.least.ensures ∙ c.if-least-n.false in
-    rw c.nothing.ensures (kept_cut a.r a.tp.now c.requires.0 a.room.now _ _ c.requires.2 (search rules) a.header a.left _ _ _ _ _ _ c.requires.1 (λ i. omega (arith, c.shared_slice_known-1.given i)) b e c.counted-count.ensures c.move_at.ensures c.if-rest-left.true _ refl c.put.ensures)
+    rw c.nothing.ensures (kept_cut a.r a.tp.now c.requires.0 a.room.now _ _ c.requires.2 (search rules) a.header a.left _ _ _ _ _ _ c.requires.1 (λ i. omega (arith, c.type_inv.tp i)) b e c.counted-count.ensures c.move_at.ensures c.if-rest-left.true _ refl (c.put.ensures.w_after, c.put.ensures.bytes))
 
 pub overflow_add-find : goal.overflow_add-find
 overflow_add-find c =
@@ -31,4 +30,4 @@ returns c =
     let a = c.args in
     let b = behind_of_lem _ a.r.stream a.tp.now _ c.begin.ensures c.in-Behind.is in
     let e = sym c.least.ensures ∙ c.if-least-n.false in
-    kept_whole a.r a.tp.now c.requires.0 a.room.now _ _ c.requires.2 (search rules) a.header a.left _ _ _ _ _ _ c.requires.1 (λ i. omega (arith, c.shared_slice_known-1.given i)) b e c.counted-count.ensures c.move_at-2.ensures c.if-rest-left.false (sym c.hands.ensures ∙ c.if-not-hands.false) (rw c.between.ensures at c.put-2.ensures.w_after)
+    kept_whole a.r a.tp.now c.requires.0 a.room.now _ _ c.requires.2 (search rules) a.header a.left _ _ _ _ _ _ c.requires.1 (λ i. omega (arith, c.type_inv.tp i)) b e c.counted-count.ensures c.move_at-2.ensures c.if-rest-left.false (sym c.hands.ensures ∙ c.if-not-hands.false) (rw c.between.ensures at c.put-2.ensures.w_after)

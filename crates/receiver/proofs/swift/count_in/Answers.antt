@@ -1,7 +1,6 @@
 -- `receiver::swift::count_in` meets its contract.
 -- Assumes nothing.
 use Rattle.receiver.proofs.OnWords.{count_first, count_later}
-use borrow.Author.Rules.{rules}
 use Rattle.receiver.proofs.swift.count_in.Goals as goal
 
 pub returns-then-w-eq0 : goal.returns-then-w-eq0

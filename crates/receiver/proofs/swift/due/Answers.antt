@@ -1,7 +1,6 @@
 -- `receiver::swift::due` meets its contract: from its spot on.
 -- Assumes nothing.
 use Rattle.receiver.proofs.OnWords.{due_out, due_plain}
-use borrow.Author.Rules.{rules}
 use Rattle.receiver.proofs.swift.due.Goals as goal
 
 pub returns-in-Due : goal.returns-in-Due

@@ -4,7 +4,6 @@ use mathlib.Core.Path.{ap, sym, ◌∙◌}
 use mathlib.Core.Bool.{Bool, cond}
 use Rattle.receiver.specs.declared.swift.Spot.TheVariants as T
 use Rattle.receiver.specs.InSwift.{first_spot}
-use borrow.Author.Rules.{rules}
 use Rattle.receiver.proofs.swift.first_spot.Goals as goal
 
 pub returns-then-low : goal.returns-then-low

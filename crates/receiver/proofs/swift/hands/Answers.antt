@@ -1,7 +1,6 @@
 -- `receiver::swift::hands` meets its contract.
 -- Assumes nothing.
 use mathlib.Core.Path.{sym, ◌∙◌}
-use borrow.Author.Rules.{rules}
 use Rattle.receiver.proofs.swift.hands.Goals as goal
 
 pub returns-in-Fill : goal.returns-in-Fill

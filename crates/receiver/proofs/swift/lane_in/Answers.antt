@@ -1,7 +1,6 @@
 -- `receiver::swift::lane_in` meets its contract: each test that passes is a fact.
 -- Assumes nothing.
 use Rattle.receiver.proofs.OnWords.{words_cut, words_idle, words_lost}
-use borrow.Author.Rules.{rules}
 use Rattle.receiver.proofs.swift.lane_in.Goals as goal
 
 pub returns-then-w-eq0 : goal.returns-then-w-eq0

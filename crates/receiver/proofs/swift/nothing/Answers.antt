@@ -1,6 +1,5 @@
 -- `receiver::swift::nothing` meets its contract.
 -- Assumes nothing.
-use borrow.Author.Rules.{rules}
 use Rattle.receiver.proofs.swift.nothing.Goals as goal
 
 pub returns : goal.returns

@@ -1,7 +1,6 @@
 -- `receiver::swift::plain_spot` meets its contract.
 -- Assumes nothing.
 use borrow.Author.Tests.{eq-eqb, ne_eqb}
-use borrow.Author.Rules.{rules}
 use Rattle.receiver.proofs.swift.plain_spot.Goals as goal
 
 pub returns-then-at-len : goal.returns-then-at-len

@@ -4,7 +4,6 @@ use mathlib.Core.Path.{refl}
 use native.Mathlib.Omega.{arith}
 use Rattle.receiver.proofs.OnWords.{goes_due, goes_first, goes_low, goes_plain}
 use Rattle.receiver.proofs.Worded.{fits, streamed}
-use borrow.Author.Rules.{rules}
 use Rattle.receiver.proofs.swift.spot_of.Goals as goal
 
 pub overflow_cast-w : goal.overflow_cast-w

@@ -2,7 +2,6 @@
 use mathlib.Core.Path.{ap, ◌∙◌}
 use Rattle.receiver.specs.declared.lane.Lane.{Lane}
 use Rattle.receiver.specs.Lanes.{in_lane}
-use borrow.Author.Rules.{rules}
 use Rattle.receiver.proofs.track.back.Goals as goal
 
 pub in_lane-requires : goal.in_lane-requires

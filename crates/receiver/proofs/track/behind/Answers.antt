@@ -5,7 +5,6 @@ use native.Mathlib.Omega.{arith}
 use lib.ListN.{length}
 use Rattle.receiver.specs.declared.track.Track.{Track}
 use Rattle.receiver.proofs.TrackAhead.{behind_busy, behind_cut, behind_idle, few_left, part_left}
-use borrow.Author.Rules.{rules}
 use Rattle.receiver.proofs.track.behind.Goals as goal
 
 pub overflow_sub-rest : goal.overflow_sub-rest

@@ -2,14 +2,13 @@
 -- Assumes nothing.
 use native.Mathlib.Omega.{arith}
 use Rattle.receiver.proofs.TrackOver.{beyond_told, broken_told, none_begins, offset_small, outside_told, undropped, word_over}
-use borrow.Author.Rules.{rules}
 use Rattle.receiver.proofs.track.dropped.Goals as goal
 
 pub returns-then-tp-r : goal.returns-then-tp-r
 returns-then-tp-r c = undropped c.args.r c.args.tp.now
 
 pub overflow_cast-tp : goal.overflow_cast-tp
-overflow_cast-tp c = omega (arith, c.shared_slice_known-1.given 0)
+overflow_cast-tp c = omega (arith, c.type_inv.tp 0)
 
 pub returns-then-tp-r-2 : goal.returns-then-tp-r-2
 returns-then-tp-r-2 c = undropped c.args.r c.args.tp.now

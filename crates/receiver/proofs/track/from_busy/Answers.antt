@@ -20,7 +20,7 @@ overflow_add-result c =
 pub returns-then-left-rest : goal.returns-then-left-rest
 returns-then-left-rest c =
     let a = c.args in
-    busy_packet a.t a.offset a.here a.tp.now a.room.now _ c.requires.0 c.requires.1 (λ i. omega (arith, c.shared_slice_known-1.given i)) c.requires.3 (search rules) c.requires.4 c.if-left-rest.true c.if-offset-end.false c.copy_at.ensures
+    busy_packet a.t a.offset a.here a.tp.now a.room.now _ c.requires.0 c.requires.1 (λ i. omega (arith, c.type_inv.tp i)) c.requires.3 (search rules) c.requires.4 c.if-left-rest.true c.if-offset-end.false c.copy_at.ensures
 
 pub returns-then-offset-ne2047 : goal.returns-then-offset-ne2047
 returns-then-offset-ne2047 c =
@@ -40,4 +40,4 @@ overflow_add-len c =
 pub returns : goal.returns
 returns c =
     let a = c.args in
-    busy_over a.t a.offset a.here a.tp.now a.room.now _ c.requires.0 c.requires.1 (λ i. omega (arith, c.shared_slice_known-1.given i)) c.requires.3 (search rules) _ c.place_of-began.result c.busy.result (omega (arith, c.if-left-rest.false, c.if-left-rest-2.false)) c.if-offset-ne2047.false c.copy_at-2.ensures c.place_of-began.ensures c.busy.ensures.0 c.busy.ensures.1 c.busy.ensures.2 c.out_with-2.ensures
+    busy_over a.t a.offset a.here a.tp.now a.room.now _ c.requires.0 c.requires.1 (λ i. omega (arith, c.type_inv.tp i)) c.requires.3 (search rules) _ c.place_of-began.result c.busy.result (omega (arith, c.if-left-rest.false, c.if-left-rest-2.false)) c.if-offset-ne2047.false c.copy_at-2.ensures c.place_of-began.ensures c.busy.ensures.0 c.busy.ensures.1 c.busy.ensures.2 c.out_with-2.ensures

@@ -4,10 +4,8 @@ use Prim.Native.Nat.{◌-◌}
 use mathlib.Core.Path.{refl}
 use native.Mathlib.Omega.{arith}
 use lib.ListN.{length}
-use borrow.Author.Tests.{not-false}
 use Rattle.receiver.proofs.LaneAhead.{fits_of_lem}
 use Rattle.receiver.proofs.TrackOut.{cut_at, cut_over, cut_packet, head_whole, sets_off, tidy_by}
-use borrow.Author.Rules.{rules}
 use Rattle.receiver.proofs.track.from_cut.Goals as goal
 
 pub head-requires : goal.head-requires
@@ -40,7 +38,7 @@ pub returns-then-h-eq0 : goal.returns-then-h-eq0
 returns-then-h-eq0 c =
     let a = c.args in
     let w = head_whole (length c.args.tp.now - c.args.here) (6 - c.args.t.have) _ _ c.in-Whole.h c.head.ensures c.in-Whole.is in
-    cut_at a.t a.offset a.here a.tp.now a.room.now c.requires.0 c.requires.1 (λ i. omega (arith, c.shared_slice_known-1.given i)) c.requires.3 c.in-Whole.h _ refl w.0 w.1 _ c.requires.4 c.if-n-rest.true c.if-offset-end.false c.if-h-eq0.true c.out_with-then-h-eq0.ensures
+    cut_at a.t a.offset a.here a.tp.now a.room.now c.requires.0 c.requires.1 (λ i. omega (arith, c.type_inv.tp i)) c.requires.3 c.in-Whole.h _ refl w.0 w.1 _ c.requires.4 c.if-n-rest.true c.if-offset-end.false c.if-h-eq0.true c.out_with-then-h-eq0.ensures
 
 pub returns-then-not-fits : goal.returns-then-not-fits
 returns-then-not-fits c =
@@ -52,7 +50,7 @@ returns-then-n-rest c =
     let a = c.args in
     let w = head_whole (length c.args.tp.now - c.args.here) (6 - c.args.t.have) _ _ c.in-Whole.h c.head.ensures c.in-Whole.is in
     let f = fits_of_lem c.fits.result c.in-Whole.h (length a.room.now) c.fits.ensures (c.if-not-fits.false) in
-    cut_packet a.t a.offset a.here a.tp.now a.room.now c.requires.0 c.requires.1 (λ i. omega (arith, c.shared_slice_known-1.given i)) c.requires.3 c.in-Whole.h _ refl w.0 w.1 _ f c.requires.4 c.if-n-rest.true c.if-offset-end.false c.copy_at.ensures
+    cut_packet a.t a.offset a.here a.tp.now a.room.now c.requires.0 c.requires.1 (λ i. omega (arith, c.type_inv.tp i)) c.requires.3 c.in-Whole.h _ refl w.0 w.1 _ f c.requires.4 c.if-n-rest.true c.if-offset-end.false c.copy_at.ensures
 
 pub returns-then-offset-ne2047 : goal.returns-then-offset-ne2047
 returns-then-offset-ne2047 c =
@@ -85,5 +83,5 @@ pub returns : goal.returns
 returns c =
     let a = c.args in
     let w = head_whole (length c.args.tp.now - c.args.here) (6 - c.args.t.have) _ _ c.in-Whole.h c.head.ensures c.in-Whole.is in
-    let f = fits_of_lem c.fits3.result c.in-Whole.h (length a.room.now) c.fits3.ensures (c.if-not-fits-2.false) in
-    cut_over a.t a.offset a.here a.tp.now a.room.now c.requires.0 c.requires.1 (λ i. omega (arith, c.shared_slice_known-1.given i)) c.requires.3 c.in-Whole.h _ refl w.0 w.1 _ f _ c.place_of-began.result c.busy.result (omega (arith, c.if-n-rest.false, c.if-n-rest-2.false)) c.if-offset-ne2047.false c.copy_at-2.ensures (omega (arith, c.struct_known-3-1.given)) c.place_of-began.ensures c.busy.ensures.0 c.busy.ensures.1 c.busy.ensures.2 c.out_with-2.ensures
+    let f = fits_of_lem c.fits-2.result c.in-Whole.h (length a.room.now) c.fits-2.ensures (c.if-not-fits-2.false) in
+    cut_over a.t a.offset a.here a.tp.now a.room.now c.requires.0 c.requires.1 (λ i. omega (arith, c.type_inv.tp i)) c.requires.3 c.in-Whole.h _ refl w.0 w.1 _ f _ c.place_of-began.result c.busy.result (omega (arith, c.if-n-rest.false, c.if-n-rest-2.false)) c.if-offset-ne2047.false c.copy_at-2.ensures (omega arith) c.place_of-began.ensures c.busy.ensures.0 c.busy.ensures.1 c.busy.ensures.2 c.out_with-2.ensures

@@ -1,7 +1,6 @@
 -- `receiver::track::head` meets its contract: the header is whole and data follow it, or it is left.
 -- Assumes nothing.
 use Rattle.receiver.proofs.TrackOut.{head_beyond, head_read}
-use borrow.Author.Rules.{rules}
 use Rattle.receiver.proofs.track.head.Goals as goal
 
 pub returns-then-tp-here : goal.returns-then-tp-here

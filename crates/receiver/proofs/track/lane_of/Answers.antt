@@ -1,7 +1,6 @@
 -- `receiver::track::lane_of` meets its contract: by the sort. Assumes nothing.
 use mathlib.Core.Path.{sym}
 use Rattle.receiver.proofs.Tracked.{lane_cut, lane_idle, lane_last, lane_lost}
-use borrow.Author.Rules.{rules}
 use Rattle.receiver.proofs.track.lane_of.Goals as goal
 
 pub returns-then-t-eq-LOST : goal.returns-then-t-eq-LOST

@@ -2,11 +2,9 @@
 -- Assumes nothing.
 use mathlib.Core.Path.{sym, ◌∙◌}
 use mathlib.Core.Bool.{true, false}
-use borrow.Author.Tests.{not-false}
 use Rattle.golay.proofs.Ends.{is_end}
 use Rattle.receiver.proofs.LaneAhead.{fits_of_lem}
 use Rattle.receiver.proofs.TrackOver.{brief_as, full_goes_on, unfound, zero_ends}
-use borrow.Author.Rules.{rules}
 use Rattle.receiver.proofs.track.llep_at.Goals as goal
 
 pub returns-then-tp-at-lt7 : goal.returns-then-tp-at-lt7

@@ -5,7 +5,6 @@ use Rattle.receiver.specs.State.{Fine, Staged}
 use Rattle.receiver.specs.Tracks.{OwnIn}
 use Rattle.receiver.proofs.Laned.{walk_is}
 use Rattle.receiver.proofs.Tracked.{tracks_kept, tracks_none, tracks_unkept}
-use borrow.Author.Rules.{rules}
 use Rattle.receiver.proofs.track.of.Goals as goal
 
 pub returns-in_default : goal.returns-in_default

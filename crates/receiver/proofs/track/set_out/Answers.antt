@@ -3,7 +3,6 @@
 use mathlib.Core.Path.{refl}
 use native.Mathlib.Omega.{arith}
 use Rattle.receiver.proofs.TrackOut.{idle_at, lost_at_lem, sets_off}
-use borrow.Author.Rules.{rules}
 use Rattle.receiver.proofs.track.set_out.Goals as goal
 
 pub returns-then-tp-gt2051 : goal.returns-then-tp-gt2051

@@ -3,7 +3,6 @@ use mathlib.Core.Path.{sym, ◌∙◌}
 use lib.ListN.{length}
 use borrow.Author.Tests.{eq-eqb, ne_eqb}
 use Rattle.receiver.proofs.TakingUp.{top_eight, top_nine, top_says, top_seven}
-use borrow.Author.Rules.{rules}
 use Rattle.receiver.proofs.track.top.Goals as goal
 
 pub returns-then-tp-r : goal.returns-then-tp-r

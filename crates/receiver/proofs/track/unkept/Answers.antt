@@ -1,7 +1,6 @@
 -- `receiver::track::unkept` meets its contract: with nothing kept, by the phase. Assumes nothing.
 use mathlib.Core.Path.{◌∙◌}
 use Rattle.receiver.proofs.Tracked.{track_cut, track_idle, track_lost, track_none}
-use borrow.Author.Rules.{rules}
 use Rattle.receiver.proofs.track.unkept.Goals as goal
 
 pub returns-then-have-eq0 : goal.returns-then-have-eq0

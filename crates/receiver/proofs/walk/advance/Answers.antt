@@ -1,6 +1,5 @@
 -- `receiver::walk::advance` meets its contract: which clause of the turn's definition the phase chooses.
 -- Assumes nothing.
-use borrow.Author.Rules.{rules}
 use Rattle.receiver.proofs.Advancing.{advance_by_lem, advance_lost, counts, fine_by}
 use native.Mathlib.Omega.{arith}
 use Rattle.receiver.proofs.walk.advance.Goals as goal

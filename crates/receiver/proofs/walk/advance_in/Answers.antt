@@ -1,13 +1,10 @@
 -- `receiver::walk::advance_in` meets its contract: only a run of data writes.
 -- Assumes nothing.
-use mathlib.Core.Path.{◌≡◌}
-use mathlib.Core.Logic.{⊎_elim}
-use borrow.Author.Rules.{rules}
 use native.Mathlib.Omega.{arith}
 use lib.ListN.{length}
-use Rattle.receiver.specs.InWalk.{room_of}
 use Rattle.receiver.proofs.Advancing.{advance_by_lem, counts, fine_by, less_roomy, room_by_lem}
 use Rattle.receiver.proofs.walk.advance_in.Goals as goal
+use Rattle.receiver.proofs.walk.advance_in.Goals.{in-Lost, in-Head, in-Judged}
 
 pub put-requires : goal.put-requires
 put-requires c =
@@ -33,7 +30,9 @@ pub returns : goal.returns
 returns c =
     let a = c.args in (
       c.advance.ensures,
-      ⊎_elim (λ l. room_by_lem a.w a.tp.now a.room.now _ l.1.given.1)
-          (⊎_elim (λ h. room_by_lem a.w a.tp.now a.room.now _ h.1.given.1) (λ j. room_by_lem a.w a.tp.now a.room.now _ j.1.given.1))
-          c.match-phase.branch,
+      elim c.match-phase.branch [
+        | in-Lost w ↦ room_by_lem a.w a.tp.now a.room.now _ w.in-Lost.is
+        | in-Head w ↦ room_by_lem a.w a.tp.now a.room.now _ w.in-Head.is
+        | in-Judged w ↦ room_by_lem a.w a.tp.now a.room.now _ w.in-Judged.is
+      ],
     )

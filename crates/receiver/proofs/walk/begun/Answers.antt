@@ -1,6 +1,5 @@
 -- `receiver::walk::begun` meets its contract: here if no byte is read.
 -- Assumes nothing.
-use borrow.Author.Rules.{rules}
 use borrow.Author.Tests.{eq-eqb, ne_eqb}
 use Rattle.receiver.proofs.walk.begun.Goals as goal
 

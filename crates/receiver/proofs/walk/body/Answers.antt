@@ -1,6 +1,5 @@
 -- `receiver::walk::body` meets its contract: either the TP ends first, or the EP does.
 -- Assumes nothing.
-use borrow.Author.Rules.{rules}
 use native.Mathlib.Omega.{arith}
 use Rattle.receiver.proofs.Advancing.{body_cut, body_read, less_roomy}
 use Rattle.receiver.proofs.walk.body.Goals as goal

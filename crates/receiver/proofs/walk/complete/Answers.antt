@@ -1,7 +1,6 @@
 -- `receiver::walk::complete` meets its contract: a header of which no byte is read has the number 0 so far.
 -- Assumes nothing.
 use mathlib.Core.Path.{◌∙◌}
-use borrow.Author.Rules.{rules}
 use Rattle.receiver.proofs.Gather.{none_read}
 use Rattle.receiver.proofs.walk.complete.Goals as goal
 

@@ -1,11 +1,8 @@
 -- `receiver::walk::gather` meets its contract: the invariant: the bytes read, then those left, make the same number. The measure is what is left.
 -- Assumes nothing.
 use mathlib.Core.Path.{refl, ◌≡◌}
-use Prim.Native.Nat.{suc, ◌+◌, ◌-◌, ◌<◌, ◌^◌, ◌≤◌}
+use Prim.Native.Nat.{suc, ◌+◌}
 use native.Mathlib.Omega.{arith}
-use lib.ListN.{drop, take}
-use borrow.Author.Rules.{rules}
-use Rattle.digits.specs.Digits.{number}
 use Rattle.receiver.proofs.Gather.{gather_off, gather_on, next_small, small}
 use Rattle.receiver.proofs.walk.gather.Goals as goal
 
@@ -29,7 +26,7 @@ pub overflow_add-w : goal.overflow_add-w
 overflow_add-w c =
     let l = c.loop-i in
     let a = c.args in
-    let y = c.shared_slice_known-in-loop-i-1.given (a.at + l.i) in
+    let y = c.type_inv.tp (a.at + l.i) in
     let h = small (a.have + l.i) l.w l.invariant.1 (omega arith) in
     omega (arith, c.wide.ensures)
 
@@ -43,7 +40,7 @@ pub loop-i-preserved : goal.loop-i-preserved
 loop-i-preserved c =
     let l = c.loop-i in
     let a = c.args in
-    let y = c.shared_slice_known-in-loop-i-1.given (a.at + l.i) in
+    let y = c.type_inv.tp (a.at + l.i) in
     let h = small (a.have + l.i) l.w l.invariant.1 (omega arith) in
     let e : a.have + (l.i + 1) ≡ suc (a.have + l.i) = omega arith in
     rw (c.wide.ensures, e) (omega arith, next_small (a.have + l.i) l.w _ l.invariant.1 (omega arith), gather_on a.tp.now a.at a.n l.w l.i _ (omega arith) (omega arith) l.invariant.2)

@@ -1,12 +1,9 @@
 -- `receiver::walk::gather` meets its contract: the invariant: the bytes read, then those left, make the same number. The measure is what is left.
 -- Assumes nothing.
-use mathlib.Core.Path.{refl, ◌≡◌}
-use Prim.Native.Nat.{suc, ◌+◌, ◌-◌, ◌<◌, ◌^◌, ◌≤◌}
-use native.Mathlib.Omega.{arith}
+use mathlib.Core.Path.{◌≡◌}
+use Prim.Native.Nat.{◌+◌, ◌-◌, ◌<◌, ◌^◌, ◌≤◌}
 use lib.ListN.{drop, take}
-use borrow.Author.Rules.{rules}
 use Rattle.digits.specs.Digits.{number}
-use Rattle.receiver.proofs.Gather.{gather_off, gather_on, next_small, small}
 use Rattle.receiver.proofs.walk.gather.Given as goal
 
 abbrev pub invariant-loop-i : goal.invariant-loop-i

@@ -1,6 +1,5 @@
 -- `receiver::walk::grown` meets its contract: the length goes up.
 -- Assumes nothing.
-use borrow.Author.Rules.{rules}
 use native.Mathlib.Omega.{arith}
 use Rattle.receiver.proofs.Advancing.{grown_of}
 use Rattle.receiver.proofs.walk.grown.Goals as goal

@@ -2,7 +2,6 @@
 -- Assumes nothing.
 use borrow.Author.Tests.{le-ltb, lt-ltb}
 use Rattle.receiver.specs.Turns.{header_turn}
-use borrow.Author.Rules.{rules}
 use Rattle.receiver.proofs.walk.header.Goals as goal
 
 pub returns-then-rest-missing : goal.returns-then-rest-missing

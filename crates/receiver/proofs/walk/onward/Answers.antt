@@ -3,8 +3,6 @@
 use mathlib.Core.Path.{refl, ◌∙◌, ◌≡◌}
 use native.Mathlib.Omega.{arith}
 use lib.ListN.{length}
-use Rattle.receiver.specs.State.{Sound, pull_of}
-use Rattle.receiver.specs.Turns.{toil}
 use Rattle.receiver.proofs.Striding.{both_ends, both_on, stride_ends, stride_on}
 use borrow.Author.Rules.{rules}
 use Rattle.receiver.proofs.walk.onward.Goals as goal
@@ -19,7 +17,7 @@ pub advance_in-requires : goal.advance_in-requires
 advance_in-requires c =
     let l = c.loop-a in
     let d = c.on in
-    let n : length d.new.1.1.1.0 ≡ length l.room = search rules in
+    let n : length d.new.room ≡ length l.room = search rules in
     rw n (stride_on (length l.room) _ l.w _ l.room _ _ d.ensures _ c.in-More.is).sound
 
 pub loop-a-smaller : goal.loop-a-smaller
@@ -28,9 +26,9 @@ loop-a-smaller c =
     let a = c.args in
     let d = c.on in
     let e = c.advance_in in
-    let full : length d.new.1.1.1.0 ≡ length a.room.now = search rules in
-    let s = rw l.invariant.0 at (stride_on (length l.room) a.stamp l.w a.tp.now l.room d.new.1.1.1.0 _ d.ensures _ c.in-More.is) in
-    (both_on a.stamp a.tp.now l.room d.new.1.1.1.0 e.new.1.1.1.0 l.w _ _ (length a.room.now) s full (λ i. omega (arith, c.shared_slice_known-1.given i)) e.ensures _ c.in-More-advance_in.is).less
+    let full : length d.new.room ≡ length a.room.now = search rules in
+    let s = rw l.invariant.0 at (stride_on (length l.room) a.stamp l.w a.tp.now l.room d.new.room _ d.ensures _ c.in-More.is) in
+    (both_on a.stamp a.tp.now l.room d.new.room e.new.room l.w _ _ (length a.room.now) s full (λ i. omega (arith, c.type_inv.tp i)) e.ensures _ c.in-More-advance_in.is).less
 
 pub loop-a-preserved : goal.loop-a-preserved
 loop-a-preserved c =
@@ -38,10 +36,10 @@ loop-a-preserved c =
     let a = c.args in
     let d = c.on in
     let e = c.advance_in in
-    let full : length d.new.1.1.1.0 ≡ length a.room.now = search rules in
-    let s = rw l.invariant.0 at (stride_on (length l.room) a.stamp l.w a.tp.now l.room d.new.1.1.1.0 _ d.ensures _ c.in-More.is) in
-    let o = both_on a.stamp a.tp.now l.room d.new.1.1.1.0 e.new.1.1.1.0 l.w _ _ (length a.room.now) s full (λ i. omega (arith, c.shared_slice_known-1.given i)) e.ensures _ c.in-More-advance_in.is in
-    let n : length e.new.1.1.1.0 ≡ length a.room.now = search rules in
+    let full : length d.new.room ≡ length a.room.now = search rules in
+    let s = rw l.invariant.0 at (stride_on (length l.room) a.stamp l.w a.tp.now l.room d.new.room _ d.ensures _ c.in-More.is) in
+    let o = both_on a.stamp a.tp.now l.room d.new.room e.new.room l.w _ _ (length a.room.now) s full (λ i. omega (arith, c.type_inv.tp i)) e.ensures _ c.in-More-advance_in.is in
+    let n : length e.new.room ≡ length a.room.now = search rules in
     (n, o.sound, o.same ∙ l.invariant.2)
 
 pub returns-in-Stop : goal.returns-in-Stop
@@ -50,7 +48,7 @@ returns-in-Stop c =
     let a = c.args in
     let d = c.on in
     let s = rw l.invariant.0 at d.ensures in
-    stride_ends (length a.room.now) a.stamp l.w a.tp.now l.room d.new.1.1.1.0 _ s _ c.in-Stop.is a.start a.room.now l.invariant.2
+    stride_ends (length a.room.now) a.stamp l.w a.tp.now l.room d.new.room _ s _ c.in-Stop.is a.start a.room.now l.invariant.2
 
 pub returns-in-Stop-advance_in : goal.returns-in-Stop-advance_in
 returns-in-Stop-advance_in c =
@@ -58,6 +56,6 @@ returns-in-Stop-advance_in c =
     let a = c.args in
     let d = c.on in
     let e = c.advance_in in
-    let full : length d.new.1.1.1.0 ≡ length a.room.now = search rules in
-    let s = rw l.invariant.0 at (stride_on (length l.room) a.stamp l.w a.tp.now l.room d.new.1.1.1.0 _ d.ensures _ c.in-More.is) in
-    both_ends a.stamp a.tp.now l.room d.new.1.1.1.0 e.new.1.1.1.0 l.w _ _ (length a.room.now) s full (λ i. omega (arith, c.shared_slice_known-1.given i)) e.ensures _ c.in-Stop-advance_in.is a.start a.room.now l.invariant.2
+    let full : length d.new.room ≡ length a.room.now = search rules in
+    let s = rw l.invariant.0 at (stride_on (length l.room) a.stamp l.w a.tp.now l.room d.new.room _ d.ensures _ c.in-More.is) in
+    both_ends a.stamp a.tp.now l.room d.new.room e.new.room l.w _ _ (length a.room.now) s full (λ i. omega (arith, c.type_inv.tp i)) e.ensures _ c.in-Stop-advance_in.is a.start a.room.now l.invariant.2

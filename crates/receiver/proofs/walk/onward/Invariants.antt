@@ -1,12 +1,9 @@
 -- `receiver::walk::onward` meets its contract: the invariant: the call that the walk still asks for is the one asked for at first. The measure counts bytes, then events.
 -- Assumes nothing.
-use mathlib.Core.Path.{refl, ◌∙◌, ◌≡◌}
-use native.Mathlib.Omega.{arith}
+use mathlib.Core.Path.{◌≡◌}
 use lib.ListN.{length}
 use Rattle.receiver.specs.State.{Sound, pull_of}
 use Rattle.receiver.specs.Turns.{toil}
-use Rattle.receiver.proofs.Striding.{both_ends, both_on, stride_ends, stride_on}
-use borrow.Author.Rules.{rules}
 use Rattle.receiver.proofs.walk.onward.Given as goal
 
 abbrev pub invariant-loop-a : goal.invariant-loop-a

@@ -1,6 +1,5 @@
 -- `receiver::walk::put` meets its contract: a copy at the end of what is kept is the list with those bytes put in.
 -- Assumes nothing.
-use borrow.Author.Rules.{rules}
 use mathlib.Core.Path.{ap, sym}
 use native.Mathlib.Omega.{arith}
 use lib.ListN.{drop}

@@ -1,7 +1,6 @@
 -- `receiver::walk::six` meets its contract: the six bytes are the stretch.
 -- Assumes nothing.
 use mathlib.Core.Path.{◌∙◌}
-use borrow.Author.Rules.{rules}
 use Rattle.receiver.proofs.Gather.{six_of_lem}
 use Rattle.receiver.proofs.walk.six.Goals as goal
 

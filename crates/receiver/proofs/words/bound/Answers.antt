@@ -1,41 +1,32 @@
--- src/words.rt:286:1
-use borrow.Author.Tests.{le-leb, lt-leb, eq-eqb, ne_eqb, not-true, not-false}
+use borrow.Author.Tests.{lt-leb}
 use Rattle.receiver.specs.Words.{below}
-use Rattle.receiver.proofs.WordTests.{over_five}
-use Rattle.receiver.proofs.words.bound.Reads as reads
-use Rattle.receiver.proofs.words.bound.Lts as lts
+use native.Mathlib.Omega.{arith}
 use Rattle.receiver.proofs.words.bound.Goals as goal
 
 pub returns-in-0 : goal.returns-in-0
 unfolding below
 returns-in-0 c = simp c.in-0.is
 
--- src/words.rt:286:1
 pub returns-in-1 : goal.returns-in-1
 unfolding below
 returns-in-1 c = simp c.in-1.is
 
--- src/words.rt:286:1
 pub returns-in-2 : goal.returns-in-2
 unfolding below
 returns-in-2 c = simp c.in-2.is
 
--- src/words.rt:286:1
 pub returns-in-3 : goal.returns-in-3
 unfolding below
 returns-in-3 c = simp c.in-3.is
 
--- src/words.rt:286:1
 pub returns-in-4 : goal.returns-in-4
 unfolding below
 returns-in-4 c = simp c.in-4.is
 
--- src/words.rt:286:1
 pub returns-in-5 : goal.returns-in-5
 unfolding below
 returns-in-5 c = simp c.in-5.is
 
--- src/words.rt:286:1
 pub returns-in_default : goal.returns-in_default
 unfolding below
-returns-in_default c = simp (lt-leb c.args.have 5 (over_five c.args.have c.in_default.in_default-own.rest.0.0.0.0.0.1 c.in_default.in_default-own.rest.0.0.0.0.1 c.in_default.in_default-own.rest.0.0.0.1 c.in_default.in_default-own.rest.0.0.1 c.in_default.in_default-own.rest.0.1 c.in_default.in_default-own.rest.1))
+returns-in_default c = simp (lt-leb c.args.have 5 (omega arith))

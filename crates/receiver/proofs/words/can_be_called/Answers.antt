@@ -1,7 +1,6 @@
 -- `receiver::words::can_be_called` meets its contract: bare words fit. Assumes nothing.
 use mathlib.Core.Path.{sym, ◌∙◌}
 use Rattle.receiver.proofs.Worded.{bare_fits}
-use borrow.Author.Rules.{rules}
 use Rattle.receiver.proofs.words.can_be_called.Goals as goal
 
 pub returns-then-is_bare : goal.returns-then-is_bare

@@ -1,15 +1,11 @@
--- src/words.rt:44:9
-use borrow.Author.Tests.{le-leb, lt-leb, eq-eqb, ne_eqb, not-true, not-false}
+use borrow.Author.Tests.{eq-eqb, ne_eqb}
 use Rattle.receiver.specs.Words.{head_words}
-use Rattle.receiver.proofs.words.head_words.Reads as reads
-use Rattle.receiver.proofs.words.head_words.Lts as lts
 use Rattle.receiver.proofs.words.head_words.Goals as goal
 
 pub returns-then-have-eq0 : goal.returns-then-have-eq0
 unfolding head_words
 returns-then-have-eq0 c = simp (eq-eqb _ _ c.if-have-eq0.true)
 
--- src/words.rt:40:1
 pub returns : goal.returns
 unfolding head_words
 returns c = simp (ne_eqb _ _ c.if-have-eq0.false)

@@ -1,10 +1,4 @@
--- src/words.rt:56:9
-use borrow.Author.Rules.{rules}
-use Rattle.receiver.proofs.words.header_words.Reads as reads
-use Rattle.receiver.proofs.words.header_words.Lts as lts
-use Rattle.receiver.proofs.words.wide.Reads as wide-reads
 use Rattle.receiver.proofs.words.header_words.Goals as goal
 
--- src/words.rt:50:1
 pub returns : goal.returns
 returns c = (simp (c.wide.ensures.0, c.wide-2.ensures.0, c.wide-3.ensures.0), (c.wide.ensures.1, c.wide-2.ensures.1, c.wide-3.ensures.1))

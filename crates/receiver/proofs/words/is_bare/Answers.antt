@@ -1,8 +1,7 @@
 -- `receiver::words::is_bare` meets its contract, test by test. Assumes nothing.
 use mathlib.Core.Path.{sym, ◌∙◌}
-use borrow.Author.Tests.{eq-eqb, ne_eqb, not-true, not-false}
+use borrow.Author.Tests.{eq-eqb, ne_eqb}
 use Rattle.receiver.specs.Words.{bareb}
-use borrow.Author.Rules.{rules}
 use Rattle.receiver.proofs.words.is_bare.Goals as goal
 
 pub returns-then-w-ne0 : goal.returns-then-w-ne0

@@ -1,12 +1,8 @@
--- src/words.rt:250:9
-use borrow.Author.Tests.{le-leb, lt-leb, eq-eqb, ne_eqb, not-true, not-false}
-use Rattle.receiver.proofs.words.is_begun.Reads as reads
-use Rattle.receiver.proofs.words.is_begun.Lts as lts
+use borrow.Author.Tests.{le-leb, lt-leb}
 use Rattle.receiver.proofs.words.is_begun.Goals as goal
 
 pub returns-then-offset-gt2047 : goal.returns-then-offset-gt2047
 returns-then-offset-gt2047 c = simp (lt-leb _ _ c.if-offset-gt2047.true)
 
--- src/words.rt:246:1
 pub returns : goal.returns
 returns c = simp (le-leb _ _ c.if-offset-gt2047.false)

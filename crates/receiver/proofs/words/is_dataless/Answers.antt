@@ -1,7 +1,6 @@
 -- `receiver::words::is_dataless` meets its contract. Assumes nothing.
 use borrow.Author.Tests.{eq-eqb, ne_eqb}
 use Rattle.receiver.specs.Words.{datalessb}
-use borrow.Author.Rules.{rules}
 use Rattle.receiver.proofs.words.is_dataless.Goals as goal
 
 pub returns-then-sort-eq1 : goal.returns-then-sort-eq1

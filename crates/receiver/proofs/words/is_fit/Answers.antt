@@ -1,33 +1,19 @@
--- src/words.rt:334:19
-use borrow.Author.Tests.{le-leb, lt-leb, eq-eqb, ne_eqb, not-true, not-false}
 use mathlib.Core.Path.{sym, ◌∙◌}
 use Rattle.receiver.specs.Words.{fitb}
-use borrow.Author.Rules.{rules}
-use Rattle.receiver.proofs.words.is_fit.Reads as reads
-use Rattle.receiver.proofs.words.is_fit.Lts as lts
-use Rattle.receiver.proofs.words.is_opened.Reads as is-opened-reads
-use Rattle.receiver.proofs.words.is_phased.Reads as is-phased-reads
-use Rattle.receiver.proofs.words.is_roomy.Reads as is-roomy-reads
-use Rattle.receiver.proofs.words.is_staged.Reads as is-staged-reads
-use Rattle.receiver.proofs.words.left_in.Reads as left-in-reads
 use Rattle.receiver.proofs.words.is_fit.Goals as goal
 
--- src/words.rt:335:9
 pub returns-then-not-is_opened : goal.returns-then-not-is_opened
 unfolding fitb
 returns-then-not-is_opened c = simp (sym c.is_opened.ensures ∙ c.if-not-is_opened.true)
 
--- src/words.rt:338:9
 pub returns-then-not-is_staged : goal.returns-then-not-is_staged
 unfolding fitb
 returns-then-not-is_staged c = simp (sym c.is_opened.ensures ∙ c.if-not-is_opened.false, sym c.is_staged.ensures ∙ c.if-not-is_staged.true)
 
--- src/words.rt:341:9
 pub returns-then-not-is_phased : goal.returns-then-not-is_phased
 unfolding fitb
 returns-then-not-is_phased c = simp (sym c.is_opened.ensures ∙ c.if-not-is_opened.false, sym c.is_staged.ensures ∙ c.if-not-is_staged.false, sym c.is_phased.ensures ∙ c.if-not-is_phased.true)
 
--- src/words.rt:331:1
 pub returns : goal.returns
 unfolding fitb
 returns c = simp (sym c.is_opened.ensures ∙ c.if-not-is_opened.false, sym c.is_staged.ensures ∙ c.if-not-is_staged.false, sym c.is_phased.ensures ∙ c.if-not-is_phased.false, c.left_in.ensures, c.is_roomy.ensures)

@@ -1,11 +1,6 @@
 use borrow.Author.Tests.{eq-eqb}
 use Rattle.receiver.specs.Words.{phasedb}
 use Rattle.receiver.proofs.WordTests.{phased_judged, phased_past}
-use borrow.Author.Rules.{rules}
-use Rattle.receiver.proofs.words.is_phased.Reads as reads
-use Rattle.receiver.proofs.words.is_phased.Lts as lts
-use Rattle.receiver.proofs.words.bound.Reads as bound-reads
-use Rattle.receiver.proofs.words.is_under_way.Reads as is-under-way-reads
 use Rattle.receiver.proofs.words.is_phased.Goals as goal
 
 pub returns-then-sort-eq0 : goal.returns-then-sort-eq0

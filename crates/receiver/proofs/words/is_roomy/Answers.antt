@@ -1,9 +1,5 @@
 use borrow.Author.Tests.{eq-eqb, ne_eqb}
 use Rattle.receiver.specs.Words.{roomyb}
-use borrow.Author.Rules.{rules}
-use Rattle.receiver.proofs.words.is_roomy.Reads as reads
-use Rattle.receiver.proofs.words.is_roomy.Lts as lts
-use Rattle.receiver.proofs.words.is_within.Reads as is-within-reads
 use Rattle.receiver.proofs.words.is_roomy.Goals as goal
 
 pub returns-then-sort-eq0 : goal.returns-then-sort-eq0

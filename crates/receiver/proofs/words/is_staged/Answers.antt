@@ -1,10 +1,6 @@
 use borrow.Author.Tests.{eq-eqb}
 use Rattle.receiver.specs.Words.{stagedb}
 use Rattle.receiver.proofs.WordTests.{staged_begun, staged_past}
-use borrow.Author.Rules.{rules}
-use Rattle.receiver.proofs.words.is_staged.Reads as reads
-use Rattle.receiver.proofs.words.is_staged.Lts as lts
-use Rattle.receiver.proofs.words.is_begun.Reads as is-begun-reads
 use Rattle.receiver.proofs.words.is_staged.Goals as goal
 
 pub returns-then-sort-eq0 : goal.returns-then-sort-eq0

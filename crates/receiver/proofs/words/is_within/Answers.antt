@@ -1,12 +1,8 @@
--- src/words.rt:270:9
 use Rattle.receiver.proofs.WordTests.{past, shift_le}
-use Rattle.receiver.proofs.words.is_within.Reads as reads
-use Rattle.receiver.proofs.words.is_within.Lts as lts
 use Rattle.receiver.proofs.words.is_within.Goals as goal
 
 pub returns-then-cap-len : goal.returns-then-cap-len
 returns-then-cap-len c = past _ _ _ c.if-cap-len.true
 
--- src/words.rt:266:1
 pub returns : goal.returns
 returns c = shift_le _ _ _ c.if-cap-len.false

@@ -1,17 +1,11 @@
--- src/words.rt:193:9
-use borrow.Author.Tests.{le-leb, lt-leb, eq-eqb, ne_eqb, not-true, not-false}
+use borrow.Author.Tests.{eq-eqb, ne_eqb}
 use Rattle.receiver.specs.Words.{kept_in}
-use borrow.Author.Rules.{rules}
-use Rattle.receiver.proofs.words.kept_in.Reads as reads
-use Rattle.receiver.proofs.words.kept_in.Lts as lts
-use Rattle.receiver.proofs.words.narrow.Reads as narrow-reads
 use Rattle.receiver.proofs.words.kept_in.Goals as goal
 
 pub returns-then-sort-eq0 : goal.returns-then-sort-eq0
 unfolding kept_in
 returns-then-sort-eq0 c = simp (eq-eqb _ _ c.if-sort-eq0.true)
 
--- src/words.rt:189:1
 pub returns : goal.returns
 unfolding kept_in
 returns c = simp (ne_eqb _ _ c.if-sort-eq0.false, c.narrow.ensures)

@@ -1,15 +1,8 @@
--- src/words.rt:82:24
 use native.Mathlib.Omega.{arith}
-use borrow.Author.Rules.{rules}
-use Rattle.receiver.proofs.words.kept_words.Reads as reads
-use Rattle.receiver.proofs.words.kept_words.Lts as lts
-use Rattle.receiver.proofs.words.wide.Reads as wide-reads
 use Rattle.receiver.proofs.words.kept_words.Goals as goal
 
--- src/words.rt:78:1
 pub returns-in-Empty : goal.returns-in-Empty
 returns-in-Empty c = (simp c.in-Empty.is, simp c.in-Empty.is (omega arith))
 
--- src/words.rt:78:1
 pub returns-in-Of : goal.returns-in-Of
 returns-in-Of c = (simp (c.in-Of.is, c.wide.ensures.0), simp c.in-Of.is c.wide.ensures.1)

@@ -1,6 +1,4 @@
 use Rattle.receiver.proofs.WordTests.{left_all, left_none}
-use Rattle.receiver.proofs.words.left_in.Reads as reads
-use Rattle.receiver.proofs.words.left_in.Lts as lts
 use Rattle.receiver.proofs.words.left_in.Goals as goal
 
 pub returns-then-sort-lt3 : goal.returns-then-sort-lt3

@@ -1,7 +1,6 @@
 -- `receiver::words::next` meets its contract: at once, or in a series.
 -- Assumes nothing.
 use Rattle.receiver.proofs.Serially.{at_once, in_series, still_fit}
-use borrow.Author.Rules.{rules}
 use Rattle.receiver.proofs.words.next.Goals as goal
 
 pub next-requires-in-Other : goal.next-requires-in-Other
@@ -18,4 +17,4 @@ pub returns-in-Other : goal.returns-in-Other
 returns-in-Other c =
     let a = c.args in
     let n = c.next-in-Other in
-    in_series a.w.now a.tp.now a.room.now c.requires _ _ _ c.next.ensures c.in-Other.is n.result n.new.0 n.new.1.1.0 n.ensures
+    in_series a.w.now a.tp.now a.room.now c.requires _ _ _ c.next.ensures c.in-Other.is n.result n.new.w n.new.room n.ensures

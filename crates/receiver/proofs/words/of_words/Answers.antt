@@ -1,16 +1,8 @@
--- src/words.rt:350:8
 use Rattle.receiver.proofs.Worded.{accepted, refused}
-use borrow.Author.Rules.{rules}
-use Rattle.receiver.proofs.words.of_words.Reads as reads
-use Rattle.receiver.proofs.words.of_words.Lts as lts
-use Rattle.receiver.proofs.words.is_fit.Reads as is-fit-reads
-use Rattle.receiver.proofs.words.receiver_in.Reads as receiver-in-reads
 use Rattle.receiver.proofs.words.of_words.Goals as goal
 
--- src/words.rt:351:9
 pub returns-then-is_fit : goal.returns-then-is_fit
 returns-then-is_fit c = accepted c.args.w.now _ _ c.is_fit.ensures c.if-is_fit.true c.receiver_in.ensures
 
--- src/words.rt:347:1
 pub returns : goal.returns
 returns c = refused c.args.w.now _ c.is_fit.ensures c.if-is_fit.false

@@ -1,24 +1,14 @@
--- src/words.rt:71:24
 use native.Mathlib.Omega.{arith}
-use borrow.Author.Rules.{rules}
-use Rattle.receiver.proofs.words.phase_words.Reads as reads
-use Rattle.receiver.proofs.words.phase_words.Lts as lts
-use Rattle.receiver.proofs.words.head_words.Reads as head-words-reads
-use Rattle.receiver.proofs.words.header_words.Reads as header-words-reads
 use Rattle.receiver.proofs.words.phase_words.Goals as goal
 
--- src/words.rt:67:1
 pub returns-in-Lost : goal.returns-in-Lost
 returns-in-Lost c = (simp c.in-Lost.is, simp c.in-Lost.is (omega arith))
 
--- src/words.rt:67:1
 pub returns-in-Head : goal.returns-in-Head
 returns-in-Head c = (simp (c.in-Head.is, c.head_words.ensures), simp c.in-Head.is (omega arith))
 
--- src/words.rt:67:1
 pub returns-in-Judged : goal.returns-in-Judged
 returns-in-Judged c = (simp (c.in-Judged.is, c.header_words.ensures.0), simp c.in-Judged.is c.header_words.ensures.1)
 
--- src/words.rt:67:1
 pub returns-in-Body : goal.returns-in-Body
 returns-in-Body c = (simp (c.in-Body.is, c.header_words-in-Body.ensures.0), simp c.in-Body.is c.header_words-in-Body.ensures.1)

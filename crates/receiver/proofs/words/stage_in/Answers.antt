@@ -1,25 +1,20 @@
--- src/words.rt:141:1
-use borrow.Author.Tests.{le-leb, lt-leb, eq-eqb, ne_eqb, not-true, not-false}
+use native.Mathlib.Omega.{arith}
+use borrow.Author.Tests.{eq-eqb, ne_eqb}
 use Rattle.receiver.specs.Words.{stage_in}
-use Rattle.receiver.proofs.words.stage_in.Reads as reads
-use Rattle.receiver.proofs.words.stage_in.Lts as lts
 use Rattle.receiver.proofs.words.stage_in.Goals as goal
 
 pub returns-in-0 : goal.returns-in-0
 unfolding stage_in
 returns-in-0 c = simp (eq-eqb _ _ c.in-0.is)
 
--- src/words.rt:141:1
 pub returns-in-1 : goal.returns-in-1
 unfolding stage_in
 returns-in-1 c = simp c.in-1.is
 
--- src/words.rt:141:1
 pub returns-in-2 : goal.returns-in-2
 unfolding stage_in
 returns-in-2 c = simp c.in-2.is
 
--- src/words.rt:141:1
 pub returns-in_default : goal.returns-in_default
 unfolding stage_in
-returns-in_default c = simp (ne_eqb _ _ c.in_default.in_default-own.rest.0.0.1, ne_eqb _ _ c.in_default.in_default-own.rest.0.1, ne_eqb _ _ c.in_default.in_default-own.rest.1)
+returns-in_default c = simp (ne_eqb c.args.sort 0 (λ e. omega arith), ne_eqb c.args.sort 1 (λ e. omega arith), ne_eqb c.args.sort 2 (λ e. omega arith))

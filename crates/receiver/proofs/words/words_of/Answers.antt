@@ -1,15 +1,6 @@
--- src/words.rt:111:13
 use Rattle.receiver.specs.Words.{words_of}
-use borrow.Author.Rules.{rules}
-use Rattle.receiver.proofs.words.words_of.Reads as reads
-use Rattle.receiver.proofs.words.words_of.Lts as lts
-use Rattle.receiver.proofs.words.kept_words.Reads as kept-words-reads
-use Rattle.receiver.proofs.words.phase_words.Reads as phase-words-reads
-use Rattle.receiver.proofs.words.stage_words.Reads as stage-words-reads
-use Rattle.receiver.proofs.words.wide.Reads as wide-reads
 use Rattle.receiver.proofs.words.words_of.Goals as goal
 
--- src/words.rt:103:1
 pub returns : goal.returns
 unfolding words_of
 returns c = (simp (c.wide.ensures.0, c.kept_words-k.ensures.0, c.phase_words-p.ensures.0, c.stage_words-s.ensures), record { phase = c.phase_words-p.ensures.1; kept = c.kept_words-k.ensures.1 })

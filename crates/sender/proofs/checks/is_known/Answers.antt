@@ -9,7 +9,6 @@ use Rattle.wire.specs.declared.Sort.{Sort}
 use Rattle.wire.specs.declared.Sort.TheVariants.{Fill, Known, Reserved}
 use Rattle.wire.specs.Reading.{sort_of}
 use Rattle.sender.specs.Offering.{known}
-use borrow.Author.Rules.{rules}
 use Rattle.sender.proofs.checks.is_known.Goals as goal
 
 says : Sort → Bool

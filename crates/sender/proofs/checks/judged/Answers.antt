@@ -1,9 +1,8 @@
 -- `checks::judged` meets its contract: 2 first, then 3, then 4. Assumes nothing.
 use mathlib.Core.Path.{refl, sym, ◌∙◌}
 use lib.ListN.{length}
-use borrow.Author.Tests.{not-true, not-false, lt-ltb, le-ltb}
+use borrow.Author.Tests.{lt-ltb, le-ltb}
 use Rattle.sender.specs.Steps.{judged_of}
-use borrow.Author.Rules.{rules}
 use Rattle.sender.proofs.checks.judged.Goals as goal
 
 pub returns-then-not-is_known : goal.returns-then-not-is_known

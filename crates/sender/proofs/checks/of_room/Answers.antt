@@ -10,7 +10,6 @@ use Rattle.sender.specs.declared.Refusal.TheVariants.{Full}
 use Rattle.sender.specs.Offering.{sp_bytes}
 use Rattle.sender.specs.Steps.{checked}
 use Rattle.sender.proofs.Pieces.{one_piece, sp_least}
-use borrow.Author.Rules.{rules}
 use Rattle.sender.proofs.checks.of_room.Goals as goal
 
 pub returns-then-sp-piece : goal.returns-then-sp-piece

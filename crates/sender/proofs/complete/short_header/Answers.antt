@@ -5,7 +5,6 @@ use Prim.Native.Nat.{ℕ}
 use Rattle.digits.specs.Digits.{digits}
 use Rattle.golay.specs.Golay.{code_word}
 use Rattle.sender.proofs.Firsts.{short_is}
-use borrow.Author.Rules.{rules}
 use Rattle.sender.proofs.complete.short_header.Goals as goal
 
 pub returns : goal.returns

@@ -5,7 +5,6 @@ use native.Mathlib.Omega.{arith}
 use native.Mathlib.Nat.{div-le_self}
 use lib.ListN.{length}
 use Rattle.sender.proofs.Pieces.{sp_length}
-use borrow.Author.Rules.{rules}
 use Rattle.sender.proofs.eps.in_pieces.Goals as goal
 
 pub overflow_add-result : goal.overflow_add-result

@@ -5,8 +5,7 @@ use native.Mathlib.Omega.{arith}
 use lib.ListN.{length, take, drop}
 use Rattle.wire.proofs.Laws.{ep_length}
 use Rattle.sender.proofs.Puts.{same, put_as}
-use Rattle.sender.proofs.PutPieces.{Putting, starts, sound, size, room_last, room_more, again, ends, part_is, part_of, tail_is, tail_of}
-use borrow.Author.Rules.{rules}
+use Rattle.sender.proofs.PutPieces.{starts, sound, size, room_last, room_more, again, ends, part_is, part_of, tail_is, tail_of}
 use Rattle.sender.proofs.eps.put_later.Goals as goal
 
 pub loop-i-init : goal.loop-i-init

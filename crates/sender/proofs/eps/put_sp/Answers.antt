@@ -6,7 +6,6 @@ use Rattle.sender.specs.Steps.{Put}
 use Rattle.sender.proofs.Puts.{put_as}
 use Rattle.sender.proofs.PutPieces.{room_one, first_length, room_first, kept_first, room_later, put_more}
 use Rattle.sender.proofs.Pieces.{one_piece}
-use borrow.Author.Rules.{rules}
 use Rattle.sender.proofs.eps.put_sp.Goals as goal
 
 pub put_ep-requires : goal.put_ep-requires

@@ -5,7 +5,6 @@ use native.Mathlib.Omega.{arith}
 use lib.ListN.{length}
 use Rattle.wire.specs.Wire.{header}
 use Rattle.sender.proofs.Stream.{fill_nothing, fill_cut, fill_whole, short_zero, short_some, short_none}
-use borrow.Author.Rules.{rules}
 use Rattle.sender.proofs.ordinary.fill_part.Goals as goal
 
 pub returns-then-m-eq0 : goal.returns-then-m-eq0

@@ -1,6 +1,5 @@
 -- `ordinary::offset_of` meets its contract: an EP begins here, or none does. Assumes nothing.
 use Rattle.sender.proofs.Drawn.{offset_within, offset_none}
-use borrow.Author.Rules.{rules}
 use Rattle.sender.proofs.ordinary.offset_of.Goals as goal
 
 pub returns-then-first-r : goal.returns-then-first-r

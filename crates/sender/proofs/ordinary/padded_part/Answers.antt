@@ -1,7 +1,6 @@
 -- `ordinary::padded_part` meets its contract, by the law `owned`. Assumes nothing.
 use native.Mathlib.Omega.{arith}
 use Rattle.sender.proofs.Stream.{owned, owed_few}
-use borrow.Author.Rules.{rules}
 use Rattle.sender.proofs.ordinary.padded_part.Goals as goal
 
 pub overflow_add-result : goal.overflow_add-result

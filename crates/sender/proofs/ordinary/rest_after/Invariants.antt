@@ -1,13 +1,9 @@
 -- `ordinary::rest_after` meets its contract: from place `at` on the count is the same. The measure is what is left of n. Assumes nothing.
 use mathlib.Core.Path.{◌≡◌}
 use Prim.Native.Nat.{◌-◌, ◌≤◌}
-use native.Mathlib.Omega.{arith}
-use lib.ListN.{drop, length-drop}
+use lib.ListN.{drop}
 use Rattle.queue.specs.Ring.{held}
-use Rattle.queue.proofs.Puts.{length_held}
 use Rattle.sender.specs.Drawing.{rest_after}
-use Rattle.sender.proofs.Heads.{span_within, span_some}
-use Rattle.sender.proofs.RestAfter.{run, turn, over}
 use Rattle.sender.proofs.ordinary.rest_after.Given as goal
 
 abbrev pub invariant-loop-at : goal.invariant-loop-at

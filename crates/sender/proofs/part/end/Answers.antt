@@ -1,7 +1,6 @@
 -- `part::end` meets its contract: by its one test. Assumes nothing.
 use native.Mathlib.Omega.{arith}
 use borrow.Author.Tests.{le-ltb, lt-ltb}
-use borrow.Author.Rules.{rules}
 use Rattle.sender.proofs.part.end.Goals as goal
 
 pub bounds-tp-at : goal.bounds-tp-at

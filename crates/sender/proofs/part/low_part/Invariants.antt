@@ -1,8 +1,6 @@
 -- `part::low_part` meets its contract, by the invariant `Walk`. The measure is what is left of the TP. Assumes nothing.
 use Prim.Native.Nat.{◌+◌, ◌-◌}
-use native.Mathlib.Omega.{arith}
-use borrow.Author.Rules.{rules}
-use Rattle.sender.proofs.Lows.{Walk, starts, room, fits, stays, same_size, ends, other_length, again}
+use Rattle.sender.proofs.Lows.{Walk}
 use Rattle.sender.proofs.part.low_part.Given as goal
 
 abbrev pub invariant-loop-n : goal.invariant-loop-n

@@ -3,7 +3,6 @@ use native.Mathlib.Omega.{arith}
 use Rattle.queue.specs.Ring.{held}
 use Rattle.queue.proofs.Puts.{length_held}
 use Rattle.sender.proofs.Heads.{head_apart}
-use borrow.Author.Rules.{rules}
 use Rattle.sender.proofs.reading.head_across.Goals as goal
 
 pub returns : goal.returns

@@ -5,7 +5,6 @@ use Rattle.queue.specs.Ring.{held}
 use Rattle.queue.proofs.Puts.{length_held}
 use Rattle.sender.specs.Drawing.{low_at}
 use Rattle.sender.proofs.Heads.{low_few}
-use borrow.Author.Rules.{rules}
 use Rattle.sender.proofs.reading.low_at.Goals as goal
 
 pub returns-then-q-lt6 : goal.returns-then-q-lt6

@@ -2,7 +2,6 @@
 use mathlib.Core.Path.{sym, ◌∙◌}
 use native.Mathlib.Omega.{arith}
 use Rattle.sender.proofs.Accepted.{is_short, is_long, not_first, not_second, is_low}
-use borrow.Author.Rules.{rules}
 use Rattle.sender.proofs.reading.low_in.Goals as goal
 
 pub returns-then-n-size : goal.returns-then-n-size

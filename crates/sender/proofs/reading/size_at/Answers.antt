@@ -6,7 +6,6 @@ use lib.ListN.{length, get_or}
 use Rattle.queue.proofs.Runs.{place_in}
 use Rattle.sender.specs.Drawing.{size_in}
 use Rattle.sender.proofs.Heads.{head_run, size_four}
-use borrow.Author.Rules.{rules}
 use Rattle.sender.proofs.reading.size_at.Goals as goal
 
 pub overflow_sub-buf : goal.overflow_sub-buf

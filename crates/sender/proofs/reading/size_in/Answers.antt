@@ -2,7 +2,6 @@
 use mathlib.Core.Path.{refl}
 use native.Mathlib.Omega.{arith}
 use Rattle.sender.specs.Drawing.{size_in}
-use borrow.Author.Rules.{rules}
 use Rattle.sender.proofs.reading.size_in.Goals as goal
 
 pub returns : goal.returns

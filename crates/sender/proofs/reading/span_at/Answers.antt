@@ -7,7 +7,6 @@ use Rattle.queue.specs.Ring.{held}
 use Rattle.queue.proofs.Puts.{length_held}
 use Rattle.sender.specs.Drawing.{span}
 use Rattle.sender.proofs.Heads.{span_short}
-use borrow.Author.Rules.{rules}
 use Rattle.sender.proofs.reading.span_at.Goals as goal
 
 pub returns-then-left-lt6 : goal.returns-then-left-lt6

@@ -5,7 +5,6 @@ use native.Mathlib.Omega.{arith}
 use lib.ListN.{length, get_or}
 use Rattle.queue.proofs.Runs.{place_in}
 use Rattle.sender.proofs.Heads.{head_run, words_run}
-use borrow.Author.Rules.{rules}
 use Rattle.sender.proofs.reading.words_at.Goals as goal
 
 pub overflow_sub-buf : goal.overflow_sub-buf

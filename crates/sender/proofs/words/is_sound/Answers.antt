@@ -1,7 +1,6 @@
 -- `words::is_sound` meets its contract: the setting, the two rings and the counts in turn. Assumes nothing.
 use mathlib.Core.Path.{sym, ◌∙◌}
-use borrow.Author.Tests.{le-leb, lt-leb, not-true, not-false}
-use borrow.Author.Rules.{rules}
+use borrow.Author.Tests.{lt-leb}
 use Rattle.sender.specs.Words.{sound}
 use Rattle.sender.proofs.Worded.{sound_last}
 use Rattle.sender.proofs.words.is_sound.Goals as goal

@@ -1,6 +1,5 @@
 -- `words::sender_in` meets its contract: word by word. Assumes nothing.
 use mathlib.Core.Path.{refl}
-use borrow.Author.Rules.{rules}
 use Rattle.sender.specs.Words.{sender_in}
 use Rattle.sender.proofs.words.sender_in.Goals as goal
 

@@ -3,7 +3,6 @@
 use mathlib.Core.Path.{sym, ◌∙◌}
 use Rattle.wire.specs.Reading.{header_in}
 use Rattle.wire.proofs.Answers.{words-intact}
-use borrow.Author.Rules.{rules}
 use Rattle.wire.proofs.book.read_header.Goals as goal
 
 pub returns-then-t-eq0 : goal.returns-then-t-eq0

@@ -1,8 +1,7 @@
 -- `wire::limits::is_allowed` meets its contract: the link's settings, then F. Assumes nothing.
 use mathlib.Core.Path.{sym, ◌∙◌}
-use borrow.Author.Tests.{le-leb, lt-leb, not-true, not-false}
+use borrow.Author.Tests.{le-leb, lt-leb}
 use Rattle.wire.specs.Limits.{allowed}
-use borrow.Author.Rules.{rules}
 use Rattle.wire.proofs.limits.is_allowed.Goals as goal
 
 pub returns-then-not-is_link : goal.returns-then-not-is_link

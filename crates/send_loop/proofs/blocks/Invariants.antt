@@ -1,0 +1,15 @@
+-- `send_loop::blocks` is safe and ends: it counts down.
+-- Assumes nothing.
+use mathlib.Core.Path.{◌≡◌, refl, ◌∙◌}
+use native.Mathlib.Omega.{arith}
+use lib.ListN.{length}
+use Rattle.send_loop.specs.Running.{Ready}
+use Rattle.console.proofs.Onward.{goes_on}
+use borrow.Author.Rules.{rules}
+use Rattle.send_loop.proofs.blocks.Given as goal
+
+abbrev pub invariant-loop-left : goal.invariant-loop-left
+invariant-loop-left l = Ready l.run l.till (length l.block) l.tp (length l.out) × ((length l.low ≡ length l.initial.low) × ((length l.ordinary ≡ length l.initial.ordinary) × ((length l.block ≡ length l.initial.block) × (length l.out ≡ length l.initial.out))))
+
+abbrev pub decreases-loop-left : goal.decreases-loop-left
+decreases-loop-left l = l.left
