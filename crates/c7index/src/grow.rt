@@ -175,5 +175,7 @@ pub fn from(rt: &HostRuntime, recording: &File, beside: &File, setup: Setup, top
     let mut block = [0u8; 131072];
     let mut out = [0u8; 65536];
     let walk = index_loop::start(receiver, first_record(top), first_byte(top));
-    onward(rt, recording, beside, top, walk, &mut block, &mut room, &mut out);
+    onward(
+        rt, recording, beside, top, walk, &mut block, &mut room, &mut out,
+    );
 }

@@ -1,11 +1,10 @@
 // The index's file: opened and judged, or made.
 use files::Got;
 use line_zero::{Reads, Top};
-use std::fs;
 use std::fs::File;
-use std::io;
 use std::io::ErrorKind;
 use std::os::unix::fs::FileExt;
+use std::{fs, io};
 
 const SIZE: usize = 133;
 

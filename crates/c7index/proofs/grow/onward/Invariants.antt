@@ -1,0 +1,14 @@
+-- `c7index::grow::onward` is safe and ends: it counts down.
+-- Assumes nothing.
+use mathlib.Core.Path.{◌≡◌, refl, subst⁻¹, ◌∙◌}
+use native.Mathlib.Omega.{arith}
+use lib.ListN.{length}
+use Rattle.index_loop.specs.Walking.{Lies, Walked}
+use borrow.Author.Rules.{rules}
+use Rattle.c7index.proofs.grow.onward.Given as goal
+
+abbrev pub invariant-loop-left : goal.invariant-loop-left
+invariant-loop-left l = Walked (length l.block) l.walk × ((length l.block ≡ length l.initial.block) × ((length l.room ≡ length l.initial.room) × (length l.out ≡ length l.initial.out)))
+
+abbrev pub decreases-loop-left : goal.decreases-loop-left
+decreases-loop-left l = l.left
