@@ -154,7 +154,7 @@ fn from_words(rt: &HostRuntime) -> Asked {
 fn main(rt: HostRuntime) {
     let Asked::Packet(wanted) = from_words(&rt) else {
         console::say(
-            rt,
+            &rt,
             b"c7at",
             b"asks for a recording, a record, a place, and low or ordinary\n",
         );

@@ -35,7 +35,7 @@ use Rattle.index_loop.specs.declared.lanes.Left.{Left}
 use Rattle.index_loop.specs.declared.lanes.Left.TheVariants.{From}
 use Rattle.index_loop.specs.declared.lanes.Noted.{Noted}
 use Rattle.index_loop.specs.declared.lanes.Part.{Part}
-use Rattle.index_loop.specs.declared.lanes.Part.TheVariants.{Within, Broken, Behind}
+use Rattle.index_loop.specs.declared.lanes.Part.TheVariants.{Within, Behind}
 use Rattle.index_loop.specs.declared.lanes.Way.{Way}
 use Rattle.index_loop.specs.declared.lanes.Way.TheVariants.{On, Off}
 use Rattle.index_loop.specs.Lanes.{low_text, Looked, SetOut, LeftFits, Leaves, PartFits, way_by, plain_at, part_by}

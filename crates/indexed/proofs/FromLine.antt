@@ -1,7 +1,7 @@
 -- FROM ANY LINE: of the packets begun at or after a line's place, a receiver started at the line's record is given the same as the one that
 -- read all, input by input; none of an earlier record is among them, and in what rises the line's own packet is the first.
 -- Assumes nothing.
-use Prim.Native.Nat.{ℕ, suc, ◌+◌, ◌-◌, ◌<◌}
+use Prim.Native.Nat.{ℕ, suc, ◌-◌, ◌<◌}
 use mathlib.Core.Path.{◌≡◌, refl, sym, ap, ap₂, ◌∙◌, subst}
 use mathlib.Core.Logic.{inl, inr}
 use mathlib.Core.Bool.{Bool, true, false, cond}

@@ -15,7 +15,7 @@ use lib.Seq.{take_all}
 use borrow.Author.Tests.{eqb-true}
 use Rattle.receiver.specs.Frame.{Code, Frame, lost, idle, head, body, Event, lose, Out, within, whole, step, after, events}
 use Rattle.receiver.specs.Forecast.{foretold, upon, resume, agree, judge, Way, stays, drops, gaps, goes, read, by_way}
-use Rattle.receiver.specs.Join.{Finding, Held, free, held, holding, finds}
+use Rattle.receiver.specs.Join.{Finding, Held, free, holding, finds}
 use Rattle.receiver.proofs.Facts.{Placed, InFrame, InEvents, InHeld, in_holding}
 use Rattle.indexed.specs.Packets.{Packet, chosen}
 use Rattle.indexed.proofs.Ways.{Stand, fresh, joins, next, run, gives}

@@ -10,7 +10,7 @@ use lib.Dec.{eqb}
 use lib.ListN.{take, drop, take-append-drop}
 use Rattle.receiver.specs.Frame.{Code, Frame, lost, idle, head, body, Event, lose, step, after, events}
 use Rattle.receiver.specs.Forecast.{inside, phase, foretold, upon, resume, agree, judge, Way, stays, drops, gaps, goes, read, by_way}
-use Rattle.receiver.specs.Join.{Held, free, held, holding}
+use Rattle.receiver.specs.Join.{Held, free, holding}
 use Rattle.receiver.specs.Low.{wire}
 use Rattle.receiver.proofs.Facts.{Placed, wired, InFrame, InEvents, in_upon, in_inside, in_step, InHeld, in_holding}
 use Rattle.indexed.specs.Index.{start_stamp, fresh, stand_at}

@@ -36,7 +36,7 @@ module _ {A : Type 0} where
   sub_trans s end = s
   sub_trans s (skip t) = skip (sub_trans s t)
   sub_trans (skip s) (both t) = skip (sub_trans s t)
-  sub_trans (both s) (both t) = both (sub_trans s t)
+  sub_trans (both {x = x} {xs = xs} s) (both {xs = xs'} {ys = ys} t) = both (sub_trans {a = xs} s t)
 
   -- a: given now; b: given later; c: known at the end; d: known between; e: comes later; f: known first; g: comes now
   pub chain : (a b c d e f g : List A) → Sub (a ++ d) (f ++ g) → Sub (b ++ c) (d ++ e) → Sub ((a ++ b) ++ c) (f ++ (g ++ e))

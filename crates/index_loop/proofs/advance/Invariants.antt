@@ -1,14 +1,10 @@
 -- `index_loop::advance` meets its contract: each block's records are taken, and reading goes on. It ends: it counts down.
 -- Assumes nothing.
-use mathlib.Core.Path.{◌≡◌, refl, ◌∙◌}
-use mathlib.Core.Logic.{⊎_elim}
-use native.Mathlib.Omega.{arith}
+use mathlib.Core.Path.{◌≡◌}
 use lib.ListN.{length}
 use Rattle.receiver.specs.State.{Able}
-use Rattle.index_loop.specs.Advancing.{Advances, begun, takes}
+use Rattle.index_loop.specs.Advancing.{Advances}
 use Rattle.index_loop.specs.Walking.{Lies, block_of}
-use Rattle.index_loop.proofs.Advances.{goes, more_at, stopped}
-use borrow.Author.Rules.{rules}
 use Rattle.index_loop.proofs.advance.Given as goal
 
 abbrev pub invariant-loop-left : goal.invariant-loop-left

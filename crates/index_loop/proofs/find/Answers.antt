@@ -3,7 +3,6 @@
 use mathlib.Core.Path.{refl, ap, ◌∙◌}
 use Rattle.block.specs.Block.{put}
 use Rattle.index_loop.specs.Walking.{text_of}
-use borrow.Author.Rules.{rules}
 use Rattle.index_loop.proofs.find.Goals as goal
 
 pub returns : goal.returns

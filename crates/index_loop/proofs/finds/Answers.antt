@@ -1,12 +1,9 @@
 -- `index_loop::finds` meets its contract: what is put are its calls' finds. It ends: it counts down.
 -- Assumes nothing.
-use mathlib.Core.Path.{◌≡◌, refl, ◌∙◌}
+use mathlib.Core.Path.{refl, ◌∙◌}
 use native.Mathlib.Omega.{arith}
-use lib.ListN.{length}
-use Rattle.receiver.specs.State.{Able}
-use Rattle.index_loop.specs.Walking.{Hears, nothing, block_of}
+use Rattle.index_loop.specs.Walking.{nothing}
 use Rattle.index_loop.proofs.Hearing.{hears_found, ends_found, heard_on, heard_done}
-use borrow.Author.Rules.{rules}
 use borrow.Author.Tests.{not-true, not-false}
 use Rattle.index_loop.proofs.finds.Goals as goal
 

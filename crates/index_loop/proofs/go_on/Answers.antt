@@ -2,7 +2,6 @@
 -- Assumes nothing.
 use Rattle.index_loop.specs.Advancing.{whole, bad}
 use Rattle.index_loop.proofs.Advances.{at_hand_lem}
-use borrow.Author.Rules.{rules}
 use Rattle.index_loop.proofs.go_on.Goals as goal
 
 pub returns-in-Bad : goal.returns-in-Bad

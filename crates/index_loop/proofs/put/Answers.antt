@@ -3,7 +3,6 @@
 use mathlib.Core.Path.{ap, sym, ◌∙◌}
 use Rattle.block.specs.Block.{put}
 use Rattle.index_loop.specs.Walking.{text_of}
-use borrow.Author.Rules.{rules}
 use Rattle.index_loop.proofs.put.Goals as goal
 
 pub returns-in-Index : goal.returns-in-Index

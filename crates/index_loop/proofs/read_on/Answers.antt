@@ -4,7 +4,6 @@ use native.Mathlib.Omega.{arith}
 use Rattle.index_loop.specs.Advancing.{ended, unreadable}
 use Rattle.index_loop.proofs.Advances.{read_anew}
 use Rattle.index_loop.proofs.Laws.{read_within}
-use borrow.Author.Rules.{rules}
 use Rattle.index_loop.proofs.read_on.Goals as goal
 
 pub returns-then-count-n : goal.returns-then-count-n

@@ -1,10 +1,8 @@
 -- `index_loop::turn` meets its contract: a TP's finds, or a gap told.
 -- Assumes nothing.
 use mathlib.Core.Path.{refl}
-use mathlib.Core.Logic.{⊎_elim}
 use native.Mathlib.Omega.{arith}
 use Rattle.index_loop.proofs.Hearing.{does_heard, does_told}
-use borrow.Author.Rules.{rules}
 use Rattle.index_loop.proofs.turn.Goals as goal
 
 pub returns-in-Packet : goal.returns-in-Packet

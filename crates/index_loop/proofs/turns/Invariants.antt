@@ -1,12 +1,8 @@
 -- `index_loop::turns` meets its contract: what lanes take and what turns take follow each other. It ends: it counts down.
 -- Assumes nothing.
-use mathlib.Core.Path.{◌≡◌, refl, sym, ◌∙◌}
-use native.Mathlib.Omega.{arith}
+use mathlib.Core.Path.{◌≡◌}
 use lib.ListN.{length}
-use Rattle.index_loop.specs.Walking.{Ahead, Taken, stays}
-use Rattle.index_loop.proofs.Hearing.{takes_on, taken_then}
-use Rattle.console.proofs.Onward.{data_within}
-use borrow.Author.Rules.{rules}
+use Rattle.index_loop.specs.Walking.{Ahead, Taken}
 use Rattle.index_loop.proofs.turns.Given as goal
 
 abbrev pub invariant-loop-left : goal.invariant-loop-left

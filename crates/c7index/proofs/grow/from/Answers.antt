@@ -3,7 +3,6 @@
 use mathlib.Core.Path.{subst}
 use native.Mathlib.Omega.{arith}
 use Rattle.receiver.specs.Call.{AbleIf}
-use borrow.Author.Rules.{rules}
 use Rattle.c7index.proofs.grow.from.Goals as goal
 
 pub start-walk-requires : goal.start-walk-requires

@@ -1,10 +1,8 @@
 -- `c7index::grow::onward` is safe and ends: it counts down.
 -- Assumes nothing.
-use mathlib.Core.Path.{◌≡◌, refl, subst⁻¹, ◌∙◌}
+use mathlib.Core.Path.{refl, subst⁻¹, ◌∙◌}
 use native.Mathlib.Omega.{arith}
-use lib.ListN.{length}
-use Rattle.index_loop.specs.Walking.{Lies, Walked}
-use borrow.Author.Rules.{rules}
+use Rattle.index_loop.specs.Walking.{Lies}
 use Rattle.c7index.proofs.grow.onward.Goals as goal
 
 pub loop-left-init : goal.loop-left-init

@@ -1,10 +1,8 @@
 -- `c7index::grow::onward` is safe and ends: it counts down.
 -- Assumes nothing.
-use mathlib.Core.Path.{◌≡◌, refl, subst⁻¹, ◌∙◌}
-use native.Mathlib.Omega.{arith}
+use mathlib.Core.Path.{◌≡◌}
 use lib.ListN.{length}
-use Rattle.index_loop.specs.Walking.{Lies, Walked}
-use borrow.Author.Rules.{rules}
+use Rattle.index_loop.specs.Walking.{Walked}
 use Rattle.c7index.proofs.grow.onward.Given as goal
 
 abbrev pub invariant-loop-left : goal.invariant-loop-left

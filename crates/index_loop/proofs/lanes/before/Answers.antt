@@ -3,7 +3,6 @@
 use native.Mathlib.Omega.{arith}
 use Rattle.receiver.specs.declared.Stage.TheVariants.{Fresh}
 use Rattle.receiver.proofs.Laning.{lane_able}
-use borrow.Author.Rules.{rules}
 use Rattle.index_loop.proofs.lanes.before.Goals as goal
 
 pub run_of-requires : goal.run_of-requires

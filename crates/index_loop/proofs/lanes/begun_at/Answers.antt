@@ -3,7 +3,6 @@
 use Prim.Native.Nat.{◌-◌}
 use mathlib.Core.Path.{◌≡◌}
 use native.Mathlib.Omega.{arith}
-use borrow.Author.Rules.{rules}
 use Rattle.index_loop.proofs.lanes.begun_at.Goals as goal
 
 pub returns-then-byte-lt4 : goal.returns-then-byte-lt4

@@ -1,15 +1,12 @@
 -- `index_loop::lanes::low_part` meets its contract: it goes on within the TP, by calls, and ends: it counts down.
 -- Assumes nothing.
-use Prim.Native.Nat.{◌≤◌}
-use mathlib.Core.Path.{◌≡◌, refl, subst, ◌∙◌}
+use mathlib.Core.Path.{refl, subst, ◌∙◌}
 use native.Mathlib.Omega.{arith}
 use lib.ListN.{length}
 use Rattle.index_loop.specs.Lanes.{PartFits}
 use Rattle.index_loop.proofs.Hearing.{pauses_none}
-use Rattle.index_loop.proofs.Leading.{RanLow, part_of_none, part_within, part_then, ran_low}
+use Rattle.index_loop.proofs.Leading.{part_of_none, part_within, part_then, ran_low}
 use Rattle.index_loop.proofs.Passing.{part_fits}
-use borrow.Author.Rules.{rules}
-use borrow.Author.Tests.{not-true, not-false}
 use Rattle.index_loop.proofs.lanes.low_part.Goals as goal
 
 pub returns-then-not-present : goal.returns-then-not-present

@@ -4,7 +4,6 @@ use mathlib.Core.Path.{ap, sym, ◌∙◌}
 use Rattle.block.specs.Block.{put}
 use Rattle.block.proofs.Laws.{nothing}
 use Rattle.index_loop.specs.Lanes.{met_text}
-use borrow.Author.Rules.{rules}
 use Rattle.index_loop.proofs.lanes.note.Goals as goal
 
 pub returns-in-Other : goal.returns-in-Other

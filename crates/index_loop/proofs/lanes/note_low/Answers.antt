@@ -5,7 +5,6 @@ use Rattle.block.specs.Block.{put}
 use Rattle.block.proofs.Laws.{nothing}
 use Rattle.index_loop.specs.Lanes.{low_text}
 use Rattle.index_loop.proofs.Passing.{low_noted}
-use borrow.Author.Rules.{rules}
 use Rattle.index_loop.proofs.lanes.note_low.Goals as goal
 
 pub returns-in-Broken : goal.returns-in-Broken

@@ -3,7 +3,6 @@
 use Rattle.index_loop.proofs.Hearing.{pauses_none}
 use Rattle.index_loop.proofs.Leading.{out_off, out_on}
 use Rattle.index_loop.proofs.Passing.{due_leaves, out_leaves, out_lent, out_then}
-use borrow.Author.Rules.{rules}
 use Rattle.index_loop.proofs.lanes.ordinary.Goals as goal
 
 pub returns-then-full-at : goal.returns-then-full-at

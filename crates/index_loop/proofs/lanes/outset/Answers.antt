@@ -1,6 +1,5 @@
 -- `index_loop::lanes::outset` meets its contract: what is met is noted.
 -- Assumes nothing.
-use borrow.Author.Rules.{rules}
 use Rattle.index_loop.proofs.lanes.outset.Goals as goal
 
 pub returns : goal.returns

@@ -3,7 +3,6 @@
 use mathlib.Core.Path.{ap, sym}
 use Rattle.index_loop.specs.Lanes.{part_by}
 use Rattle.index_loop.proofs.Passing.{part_on, part_off}
-use borrow.Author.Rules.{rules}
 use Rattle.index_loop.proofs.lanes.part_of.Goals as goal
 
 pub returns-then-more : goal.returns-then-more

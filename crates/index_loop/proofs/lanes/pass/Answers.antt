@@ -6,7 +6,6 @@ use native.Mathlib.Omega.{arith}
 use Rattle.receiver.specs.Lanes.{Tidy}
 use Rattle.index_loop.proofs.Leading.{dropped_left, says_left}
 use Rattle.index_loop.proofs.Passing.{says, says_lends, says_leaves}
-use borrow.Author.Rules.{rules}
 use Rattle.index_loop.proofs.lanes.pass.Goals as goal
 
 pub top-requires : goal.top-requires

@@ -2,17 +2,13 @@
 -- Assumes nothing.
 use Prim.Native.Nat.{◌≤◌}
 use mathlib.Core.Path.{◌≡◌, refl, sym, subst, ◌∙◌}
-use mathlib.Core.Logic.{⊎_elim}
 use native.Mathlib.Omega.{arith}
-use lib.ListN.{length}
 use Rattle.console.proofs.Onward.{data_within}
-use Rattle.receiver.specs.Lanes.{Tidy}
 use Rattle.receiver.specs.declared.lane.Lane.TheVariants as L
 use Rattle.index_loop.specs.Lanes.{LeftFits}
-use Rattle.index_loop.specs.Walking.{stays, block_of}
-use Rattle.index_loop.proofs.Between.{Between, between_first, between_run, between_all, between_on, between_pause, for_index}
+use Rattle.index_loop.specs.Walking.{stays}
+use Rattle.index_loop.proofs.Between.{between_first, between_run, between_all, between_on, between_pause, for_index}
 use Rattle.index_loop.proofs.Passing.{laned}
-use borrow.Author.Rules.{rules}
 use Rattle.index_loop.proofs.lanes.pass_all.Goals as goal
 
 pub returns-in_default : goal.returns-in_default

@@ -1,18 +1,11 @@
 -- `index_loop::lanes::pass_all` meets its contract: the lane stays tidy, each TP is taken by its calls, and the loop ends: it counts down.
 -- Assumes nothing.
 use Prim.Native.Nat.{◌≤◌}
-use mathlib.Core.Path.{◌≡◌, refl, sym, subst, ◌∙◌}
-use mathlib.Core.Logic.{⊎_elim}
-use native.Mathlib.Omega.{arith}
+use mathlib.Core.Path.{◌≡◌}
 use lib.ListN.{length}
-use Rattle.console.proofs.Onward.{data_within}
 use Rattle.receiver.specs.Lanes.{Tidy}
-use Rattle.receiver.specs.declared.lane.Lane.TheVariants as L
-use Rattle.index_loop.specs.Lanes.{LeftFits}
-use Rattle.index_loop.specs.Walking.{stays, block_of}
-use Rattle.index_loop.proofs.Between.{Between, between_first, between_run, between_all, between_on, between_pause, for_index}
-use Rattle.index_loop.proofs.Passing.{laned}
-use borrow.Author.Rules.{rules}
+use Rattle.index_loop.specs.Walking.{block_of}
+use Rattle.index_loop.proofs.Between.{Between}
 use Rattle.index_loop.proofs.lanes.pass_all.Given as goal
 
 abbrev pub invariant-loop-left : goal.invariant-loop-left

@@ -4,7 +4,6 @@ use mathlib.Core.Path.{◌∙◌}
 use native.Mathlib.Omega.{arith}
 use Rattle.index_loop.proofs.Leading.{within_left, broken_left, behind_left}
 use Rattle.index_loop.proofs.Passing.{low_leaves, behind_lent, behind_leaves, behind_four}
-use borrow.Author.Rules.{rules}
 use Rattle.index_loop.proofs.lanes.payload.Goals as goal
 
 pub low_part-parted-requires : goal.low_part-parted-requires

@@ -2,7 +2,6 @@
 -- Assumes nothing.
 use mathlib.Core.Path.{refl, sym, subst}
 use Rattle.receiver.specs.State.{Able}
-use borrow.Author.Rules.{rules}
 use Rattle.index_loop.proofs.lanes.run_of.Goals as goal
 
 pub returns : goal.returns

@@ -1,12 +1,9 @@
 -- `index_loop::lanes::run_on` meets its contract: it goes on within the TP, by calls, and ends: it counts down.
 -- Assumes nothing.
-use mathlib.Core.Path.{◌≡◌, refl, ◌∙◌}
-use native.Mathlib.Omega.{arith}
+use mathlib.Core.Path.{◌≡◌}
 use lib.ListN.{length}
-use Rattle.index_loop.proofs.Hearing.{pauses_none}
-use Rattle.index_loop.proofs.Leading.{Ran, ran_plain, ran_on, ran_off}
-use Rattle.index_loop.proofs.Passing.{Lent, plain_leaves, ahead_lent, ahead_leaves}
-use borrow.Author.Rules.{rules}
+use Rattle.index_loop.proofs.Leading.{Ran}
+use Rattle.index_loop.proofs.Passing.{Lent}
 use Rattle.index_loop.proofs.lanes.run_on.Given as goal
 
 abbrev pub invariant-loop-left : goal.invariant-loop-left

@@ -2,7 +2,6 @@
 -- Assumes nothing.
 use mathlib.Core.Path.{ap, sym}
 use Rattle.index_loop.specs.Lanes.{way_by}
-use borrow.Author.Rules.{rules}
 use Rattle.index_loop.proofs.lanes.way_of.Goals as goal
 
 pub returns-in-Other : goal.returns-in-Other
