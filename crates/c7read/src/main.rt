@@ -95,7 +95,14 @@ fn turns(first: Run, till: usize, block: &[u8], room: &mut [u8], out: &mut [u8])
 }
 
 // Takes block after block.
-fn blocks(rt: &HostRuntime, first: Run, input: Unread, block: &mut [u8], room: &mut [u8], out: &mut [u8])
+fn blocks(
+    rt: &HostRuntime,
+    first: Run,
+    input: Unread,
+    block: &mut [u8],
+    room: &mut [u8],
+    out: &mut [u8],
+)
     requires { Ready first input.till (length block.old) }
 {
     let mut run = first;
@@ -106,8 +113,15 @@ fn blocks(rt: &HostRuntime, first: Run, input: Unread, block: &mut [u8], room: &
         run = turns(run, till, block, room, out);
         let from = run.from;
         let unread = Unread { gone, from, till };
-        let More::Read(next) = console::go_on(rt, b"c7read", Place::Listing, block, unread, out, run.at)
-        else {
+        let More::Read(next) = console::go_on(
+            rt,
+            b"c7read",
+            Place::Listing,
+            block,
+            unread,
+            out,
+            run.at,
+        ) else {
             return;
         };
         let receiver = run.receiver;
