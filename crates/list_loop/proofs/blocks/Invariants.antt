@@ -2,7 +2,6 @@
 -- and the blocks follow each other as the theorem on the whole listing asks.
 -- Assumes nothing.
 use Prim.Native.Nat.{◌+◌, ◌*◌, ◌≤◌}
-use mathlib.Core.Path.{◌≡◌}
 use lib.ListN.{length}
 use Rattle.list_loop.specs.Running.{Ready}
 use Rattle.list_loop.specs.Whole.{setting_of}
@@ -10,7 +9,11 @@ use Rattle.list_loop.proofs.Rounds.{Comes}
 use Rattle.list_loop.proofs.blocks.Given as goal
 
 abbrev pub invariant-loop-left : goal.invariant-loop-left
-invariant-loop-left l = (Ready l.run l.till (length l.block) (length l.out) × Comes (setting_of l.initial.run.receiver) l.till l.block l.run l.room l.out) × ((l.run.done + l.left * 131072 ≤ 9223372036854775808) × ((length l.block ≡ length l.initial.block) × ((length l.room ≡ length l.initial.room) × (length l.out ≡ length l.initial.out))))
+invariant-loop-left l = record {
+  ready : Ready l.run l.till (length l.block) (length l.out);
+  comes : Comes (setting_of l.initial.run.receiver) l.till l.block l.run l.room l.out;
+  count : l.run.done + l.left * 131072 ≤ 9223372036854775808;
+}
 
 abbrev pub decreases-loop-left : goal.decreases-loop-left
 decreases-loop-left l = l.left
