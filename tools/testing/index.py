@@ -2,7 +2,6 @@
 import contextlib
 import ctypes
 import os
-import platform
 import pty
 import resource
 import shutil
@@ -29,18 +28,9 @@ SCRIPT = ("setup 24 0 9\nordinary 1 01*30\nlow 2 0203\ndraw 3\nlow 3 04\nordinar
 TRACEME, SYSCALL = 0, 24
 
 
-def toolchain():
-    """The kit's, as tools/run has it."""
-    rt = os.path.realpath(shutil.which("rt") or "/")
-    return os.path.join(os.path.dirname(os.path.dirname(rt)), "on", platform.machine(), "toolchain")
-
-
 def words_of(name, *words):
     """The program itself, with no tool between."""
-    kit = toolchain()
-    emulator = os.path.join(kit, "bin", "qemu-x86_64")
-    loader = [os.path.join(kit, "lib", "ld-linux-x86-64.so.2"), "--library-path", os.path.join(kit, "lib")]
-    return [*([emulator] if os.path.exists(emulator) else []), *loader, os.path.join(trial.ROOT, "target", "bin", name), *words]
+    return [os.path.join(trial.ROOT, "target", "bin", name), *words]
 
 
 def trace(request, process):
@@ -56,9 +46,11 @@ def killed(words, stops):
         nothing = os.open(os.devnull, os.O_RDWR)
         for number in range(3):
             os.dup2(nothing, number)
-        if trace(TRACEME, 0) == 0:
-            os.execv(words[0], words)
-        os._exit(127)
+        try:
+            if trace(TRACEME, 0) == 0:
+                os.execv(words[0], words)
+        finally:
+            os._exit(127)
     _, status = os.waitpid(process, 0)
     if not os.WIFSTOPPED(status):
         return None
