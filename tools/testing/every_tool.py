@@ -20,7 +20,7 @@ STREAMS = {
     "chapter10 -d": (["chapter10", "-d"], trial.records(SETUP), trial.records("ordinary 3 00*2051\n")),
     "pcap": (["pcap"], trial.records(SETUP), trial.records("low 1 00*2051\n")),
 }
-OTHERS = ["cited", "corrections", "icount", "jump", "library", "library-test", "picture", "release", "run", "tests", "wrong"]
+OTHERS = ["build", "cited", "corrections", "icount", "jump", "library", "library-test", "picture", "release", "run", "tests", "wrong"]
 SOME = 200  # more than a block of output, and than a pipe holds
 MANY = 20000  # these are more than the memory that a tool gets
 MEMORY = 40 << 20

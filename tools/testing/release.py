@@ -21,7 +21,8 @@ class Release(trial.Case):
         for page in PAGES:
             trial.write("# %s\n" % page, self.room, "docs", page)
         trial.write("an archive", self.room, "target", "staticlib", "libjenugathi.a")
-        self.env = trial.stand_in_kit(self.room, dict.fromkeys(PROGRAMS, "exit 0"), "echo kit-of-tests")
+        trial.stand_in_programs(self.room, dict.fromkeys(PROGRAMS, "exit 0"))
+        self.env = trial.stand_in_kit(self.room, "echo kit-of-tests")
         self.archive = os.path.join(self.room, "release.tar.gz")
 
     def release(self, *words):
@@ -63,7 +64,7 @@ class Release(trial.Case):
 
     def test_what_is_missing(self):
         os.remove(os.path.join(self.room, "target", "bin", "c7at"))
-        self.fails(self.release(self.archive), 1, "No such file or directory; 'rt check c7at' makes it")
+        self.fails(self.release(self.archive), 1, "No such file or directory; 'tools/build c7at' makes it")
         os.remove(os.path.join(self.room, "target", "staticlib", "libjenugathi.a"))
         self.fails(self.release(self.archive), 1, "'tools/library' makes it")
         self.assertFalse(os.path.exists(self.archive))

@@ -1,4 +1,4 @@
-"""tools/run, with stand-ins for the kit and the programs: what a program says gives the status, and is passed on."""
+"""tools/run, with stand-ins for the programs: what a program says gives the status, and is passed on."""
 import os
 
 import trial
@@ -22,10 +22,10 @@ STAND_INS = {
 class Run(trial.Case):
     def setUp(self):
         self.room = self.repository("run")
-        self.env = trial.stand_in_kit(self.room, STAND_INS)
+        trial.stand_in_programs(self.room, STAND_INS)
 
     def run_tool(self, *words, data=b"", **given):
-        return trial.run([os.path.join(self.room, "tools", "run"), *words], data, env=self.env, **given)
+        return trial.run([os.path.join(self.room, "tools", "run"), *words], data, **given)
 
     def test_all_well(self):
         self.assertEqual(self.run_tool("c7list", data=b"\0\n\xff"), (0, b"\0\n\xff", "c7list has read 0 words\n"))
@@ -64,21 +64,20 @@ class Run(trial.Case):
 
     def test_descriptors(self):
         closing = ["bash", "-c", 'exec "$@" <&-', "-", os.path.join(self.room, "tools", "run"), "reads"]
-        given = {"env": self.env, "stdin": None}
-        done = trial.run(closing, **given)
+        done = trial.run(closing, stdin=None)
         self.assertEqual((done.status, done.said.splitlines()[-1]), (1, "reads: cannot read"))
         closing[2:6] = ['exec "$@" 2>&-', *closing[3:5], "stops"]
-        self.assertEqual(trial.run(closing, **given), (1, b"begun\n", ""))
+        self.assertEqual(trial.run(closing, stdin=None), (1, b"begun\n", ""))
         closing[2] = 'exec "$@" >&-'
-        self.assertEqual(trial.run(closing, **given).status, 1)
+        self.assertEqual(trial.run(closing, stdin=None).status, 1)
 
     def test_live(self):
-        words = ["bash", "-c", 'PATH=$1 exec "$2" talks 2>&1', "-", self.env["PATH"], os.path.join(self.room, "tools", "run")]
+        words = ["bash", "-c", 'exec "$1" talks 2>&1', "-", os.path.join(self.room, "tools", "run")]
         self.passes_on(words, [(b"one\n", b"one\n"), (b"two\nthree\n", b"two\nthree\n")])
 
     def test_asked_wrongly(self):
         self.fails(self.run_tool(), 2, "tools/run: which program?")
         for name in ("nothing", "../bin/c7list", ""):
-            self.fails(self.run_tool(name), 2, "tools/run: there is no program %s: 'rt check" % name)
+            self.fails(self.run_tool(name), 2, "tools/run: there is no program %s: 'tools/build %s' proves" % (name, name))
         for words in (["--help"], ["c7list", "--help"]):
             self.assertIn(b"Exit status", self.works(self.run_tool(*words)))
