@@ -1,7 +1,6 @@
 """What is measured: our programs as rt built them, the tuned opponent and the second program, built for x86-64 with
 gcc -O3; and the driver of calls, linked with each side's ends."""
 import os
-import platform
 import re
 import shutil
 import subprocess
@@ -16,14 +15,13 @@ BENCH = os.path.join(ROOT, "target", "bench")
 SECOND = os.path.join(BENCH, "c7")
 TUNED = os.path.join(BENCH, "tuned")
 LIBRARY = os.path.join(ROOT, "target", "staticlib", "libjenugathi.a")
-NATIVE = platform.machine() == "x86_64"
-COMPILER = "gcc" if NATIVE else "x86_64-linux-gnu-gcc"
-PACKAGES = ["gcc", "libc6-dev", "valgrind"] if NATIVE else ["gcc-x86-64-linux-gnu", "libc6-dev-amd64-cross"]
+COMPILER = "gcc"
+PACKAGES = ["gcc", "libc6-dev", "valgrind"]
 
 
 def lacks_something():
     """Whether a compiler, its static C library, or what tools/icount needs is missing."""
-    for command in (COMPILER, "valgrind" if NATIVE else "x86_64-linux-gnu-objdump"):
+    for command in (COMPILER, "valgrind"):
         if shutil.which(command) is None:
             return True
     library = subprocess.run([COMPILER, "-print-file-name=libc.a"], capture_output=True, text=True).stdout
@@ -48,7 +46,7 @@ def install_missing():
 def tell_unbuilt(folder, names):
     missing = [name for name in names if not os.access(os.path.join(folder, name), os.X_OK)]
     if missing:
-        print("bench/run: not built yet: %s (rt check %s)" % (", ".join(missing), " ".join(missing)), file=sys.stderr)
+        print("bench/run: not built yet: %s (tools/build %s)" % (", ".join(missing), " ".join(missing)), file=sys.stderr)
 
 
 def sources_of_second():
@@ -114,7 +112,7 @@ class Program:
         return counted.instructions - less.instructions, counted.system_calls - less.system_calls
 
     def words(self):
-        return icount.emulator() + icount.command(self.path, self.arguments)
+        return [self.path, *self.arguments]
 
     def answer(self, data):
         return subprocess.run(self.words(), input=data, capture_output=True, check=True).stdout
