@@ -3,8 +3,8 @@ import glob
 import os
 import re
 
-BEHIND = 'was not admitted'  # said where something that is cited is refused: no fact of the one that cites it
-SHAPE = 'that can be named from here'  # the proof file doesn't fit the code: such a refusal shows no fact
+BEHIND = re.compile('not admitted|not checked')  # said where something that is cited is refused: no fact of the one that cites it
+SHAPE = re.compile('has no field|is not in scope|has no `')  # the proof doesn't fit the code: such a refusal shows no fact
 
 
 class Bad(Exception):
@@ -85,8 +85,8 @@ def is_uncalled(crate, name):
 def facts(said, crate):
     """What was refused in its own right: (function or None, place, text) for each, in the order told."""
     for line in said.split('\n'):
-        told = re.match(r'(?:note: )?((\S+?):(\d+):\d+): (error: .*|it is not proved .*)', line)
-        if told and BEHIND not in told[4]:
+        told = re.match(r'(?:note: )?(?:\./)?((\S+?):(\d+):\d+): (error: .*|it is not proved .*)', line)
+        if told and not BEHIND.search(told[4]):
             yield owner(crate, told[2], int(told[3])), told[1], told[4]
 
 
@@ -94,10 +94,11 @@ def owner(crate, file, line):
     """The function that a place in a source file, or in a function's own proof, belongs to."""
     if file.startswith('src/'):
         return functions(crate, file)[line - 1][0]
-    proof = re.fullmatch(r'proofs/(\S+)/Proof\.antt', file)
+    proof = re.fullmatch(r'proofs/(\S+)/(?:Answers|Invariants|Proof)\.antt', file)
     return proof and proof[1].replace('/', '::')
 
 
 def unproved(said, name):
     """The functions that are not proved in their own right: not only since they call such a one."""
-    return {told[1] for told in re.finditer(rf'^\w+ {name}::(\S+): (?!proved$|.*; it calls )', said, re.M)}
+    behind = r'proved$|.*[;:] it calls |.*which has no proof'
+    return {told[1] for told in re.finditer(rf'^\w+ {name}::(\S+): (?!{behind})', said, re.M)}
