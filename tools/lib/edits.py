@@ -12,7 +12,7 @@ class Bad(Exception):
 
 
 class Edit:
-    """Lines 'file: PATH' (under src/ or specs/), 'old: TEXT' (in that file once) and 'new: TEXT', one pair or more."""
+    """Lines 'file: PATH' (under src/, specs/ or proofs/), 'old: TEXT' (in that file once) and 'new: TEXT', one pair or more."""
 
     def __init__(self, path):
         self.label = os.path.basename(path).removesuffix('.edit')
@@ -31,8 +31,8 @@ class Edit:
         if not self.changes:
             raise Bad("BAD EDIT: it has no 'old:' and 'new:' pair")
         for file, old, new in self.changes:
-            if not file or not re.match('(src|specs)/', file) or '..' in file or not os.path.isfile(f'{crate}/{file}'):
-                raise Bad(f'BAD EDIT: no file {file} under src/ or specs/')
+            if not file or not re.match('(src|specs|proofs)/', file) or '..' in file or not os.path.isfile(f'{crate}/{file}'):
+                raise Bad(f'BAD EDIT: no file {file} under src/, specs/ or proofs/')
             text = read(crate, file)
             if not old or text.count(old) != 1:
                 raise Bad(f"BAD EDIT: its 'old:' text stands {text.count(old) if old else 0} times in {file}")

@@ -37,7 +37,7 @@ met_text covered n (M.Ends l) = []
 met_text covered n (M.Reads i) = []
 met_text covered n (M.Gives c e p len end) = new_text covered n p (Ordinary c len)
 
--- the line of what the low-latency part gives, as in `lowCall`
+-- the line of what the low-latency part gives, as in `low_call`
 abbrev pub low_text : ℕ → Stamp → Lows → List ℕ
 low_text covered t (L.Broken i) = []
 low_text covered t (L.End i) = []

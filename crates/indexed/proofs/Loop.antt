@@ -73,7 +73,7 @@ module _ (covered : ℕ) (s : Setting) (recording : List ℕ) (p : Stamp) where
     -- within the TP at hand
     record Mid (xs : List Input) (put : List ℕ) (b : Standing) : Type 0 where
       size : ℕ
-      at_hand_lem : at_hand Listing (unread_in block b.from till) ≡ Whole (Packet size)
+      tp_at_hand : at_hand Listing (unread_in block b.from till) ≡ Whole (Packet size)
       amid : Amid covered s p xs put (here b) (data_in (Packet size) (drop (gone + b.from) recording)) b.receiver b.room
 
     record Stood (put : List ℕ) (b : Standing) : Type 0 where
@@ -100,11 +100,11 @@ module _ (covered : ℕ) (s : Setting) (recording : List ℕ) (p : Stamp) where
       amid_at : (n : ℕ) → at_hand Listing u ≡ Whole (Packet n) → Amid covered s p t.inputs put (here b) (bytes n) b.receiver b.room
       amid_at n whole =
           ⊎_elim (λ k. begin covered s p (here b) (bytes n) k)
-          (λ k. subst (λ (i : ℕ). Amid covered s p t.inputs put (here b) (bytes i) b.receiver b.room) (packet_size u k.size n k.at_hand_lem whole) k.amid)
+          (λ k. subst (λ (i : ℕ). Amid covered s p t.inputs put (here b) (bytes i) b.receiver b.room) (packet_size u k.size n k.tp_at_hand whole) k.amid)
           t.now
 
       between_at_lem : at_hand Listing u ≡ Whole Gap → Between covered s p t.inputs put b.receiver b.room
-      between_at_lem whole = ⊎_elim (λ k. k) (λ k. absurd (no_gap u k.size k.at_hand_lem whole)) t.now
+      between_at_lem whole = ⊎_elim (λ k. k) (λ k. absurd (no_gap u k.size k.tp_at_hand whole)) t.now
 
       -- one input more
       next_on : (x : Input) (n to : ℕ) → n ≡ suc b.number → gone + to ≡ (behind (here b) x).byte → behind_all p (t.inputs ++ x ∷ []) ≡ record { number = n; byte = gone + to }
@@ -128,7 +128,7 @@ module _ (covered : ℕ) (s : Setting) (recording : List ℕ) (p : Stamp) where
             let g = goes covered s p (amid_at n whole) same in
             record {
               text = g.text;
-              stood = record { inputs = t.inputs; records = t.records; next = t.next; shows = t.shows; now = inr (record { size = n; at_hand_lem = whole; amid = g.amid }) };
+              stood = record { inputs = t.inputs; records = t.records; next = t.next; shows = t.shows; now = inr (record { size = n; tp_at_hand = whole; amid = g.amid }) };
               adds = g.adds;
             }
 
@@ -234,8 +234,8 @@ module _ (covered : ℕ) (s : Setting) (recording : List ℕ) (p : Stamp) where
         now =
             inl (⊎_elim (λ b. b)
             (λ b.
-            let some = whole_fits Listing (unread_in d u.from u.till) (Packet b.size) b.at_hand_lem in
-            absurd (no_part (unread_in d u.from u.till) b.size b.at_hand_lem (ap (at_hand Listing) (sym (stretch_is d u (omega (arith, some)))) ∙ e)))
+            let some = whole_fits Listing (unread_in d u.from u.till) (Packet b.size) b.tp_at_hand in
+            absurd (no_part (unread_in d u.from u.till) b.size b.tp_at_hand (ap (at_hand Listing) (sym (stretch_is d u (omega (arith, some)))) ∙ e)))
             t.now);
       }
 
@@ -294,7 +294,7 @@ module _ (covered : ℕ) (s : Setting) (recording : List ℕ) (p : Stamp) where
       let t = h.stands in
       let held : held_in d.out ≡ h.text = h.adds.held room ∙ ap (λ (n : ℕ). take n c.out.bytes ++ h.text) g.none_held in
       record {
-        stands = subst⁻¹ (λ (l : List ℕ). Stands (w ++ l) (emptied d)) held (record { inputs = t.inputs; records = t.records; next = t.next; shows = t.shows; now = ⊎_elim (λ x. inl x) (λ x. inr (record { size = x.size; at_hand_lem = x.at_hand_lem; amid = x.amid })) t.now });
+        stands = subst⁻¹ (λ (l : List ℕ). Stands (w ++ l) (emptied d)) held (record { inputs = t.inputs; records = t.records; next = t.next; shows = t.shows; now = ⊎_elim (λ x. inl x) (λ x. inr (record { size = x.size; tp_at_hand = x.tp_at_hand; amid = x.amid })) t.now });
         none_held = refl;
       }
 
@@ -316,7 +316,7 @@ module _ (covered : ℕ) (s : Setting) (recording : List ℕ) (p : Stamp) where
           records = t.records;
           next = t.next;
           size = x.size;
-          at_hand_lem = whole_there recording b.block b.unread.gone b.unread.from b.unread.till t.shows (Packet x.size) x.at_hand_lem;
+          tp_at_hand = whole_there recording b.block b.unread.gone b.unread.from b.unread.till t.shows (Packet x.size) x.tp_at_hand;
           first = text_in covered b.number x.amid.finds;
           others = o.0;
           begun = x.amid.begun ∙ ap (λ (l : List ℕ). l ++ text_in covered b.number x.amid.finds) x.amid.between.lines;
@@ -328,8 +328,8 @@ module _ (covered : ℕ) (s : Setting) (recording : List ℕ) (p : Stamp) where
         let u = unread_in b.block b.unread.from b.unread.till in
         ⊎_elim listed
         (λ x.
-        let some = whole_fits Listing u (Packet x.size) x.at_hand_lem in
-        absurd (none (Packet x.size) (ap (at_hand Listing) (stretch_is b.block b.unread (omega (arith, some))) ∙ x.at_hand_lem)))
+        let some = whole_fits Listing u (Packet x.size) x.tp_at_hand in
+        absurd (none (Packet x.size) (ap (at_hand Listing) (stretch_is b.block b.unread (omega (arith, some))) ∙ x.tp_at_hand)))
         t.now
 
 -- WHAT WAS WRITTEN, wherever it stops

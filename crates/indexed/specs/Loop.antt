@@ -115,7 +115,7 @@ pub record Within (covered : ℕ) (s : Setting) (recording : List ℕ) (p : Stam
   pub records : Records recording p.byte inputs (byte_at b)
   pub next : behind_all p inputs ≡ record { number = b.number; byte = byte_at b }
   pub size : ℕ
-  pub at_hand_lem : at_hand Listing (drop (byte_at b) recording) ≡ Whole (Packet size)
+  pub tp_at_hand : at_hand Listing (drop (byte_at b) recording) ≡ Whole (Packet size)
   pub first : List ℕ
   pub others : List ℕ
   pub begun : w ≡ lines_text (lines_since covered s p fresh inputs) ++ first

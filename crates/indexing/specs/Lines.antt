@@ -7,7 +7,7 @@ use Rattle.receiver.specs.declared.Find.{Find}
 use Rattle.receiver.specs.declared.Find.TheVariants.{Nothing, Refused, Notice, Low, Ordinary}
 use Rattle.receiver.specs.declared.Place.{Place}
 
--- what a line says of a packet; is-low: its sort
+-- what a line says of a packet; is_low: its sort
 pub record Line : Type 0 where
   pub begun : ℕ
   pub place : ℕ

@@ -31,7 +31,7 @@ use Rattle.list_loop.proofs.Between.{Between, begun, held_is, gap_told_lem, tp_b
 
 record Amid (s : Setting) (xs : List Input) (unread held : List ℕ) (r : Receiver) (done : ℕ) (m : List ℕ) : Type 0 where
   size : ℕ
-  at_hand_lem : at_hand Listing unread ≡ Whole (Packet size)
+  tp_at_hand : at_hand Listing unread ≡ Whole (Packet size)
   start : List ℕ
   receiver : Receiver
   room : List ℕ
@@ -57,24 +57,24 @@ module _ (s : Setting) (xs : List Input) (unread held : List ℕ) (r : Receiver)
   tp = data_in (Packet n) unread
 
   same_tp : (k : ℕ) → at_hand Listing unread ≡ Whole (Packet k) → data_in (Packet k) unread ≡ tp
-  same_tp k at_hand_lem =
-      let both : Whole (Packet k) ≡ Whole (Packet n) = sym at_hand_lem ∙ whole in
+  same_tp k tp_at_hand =
+      let both : Whole (Packet k) ≡ Whole (Packet n) = sym tp_at_hand ∙ whole in
       let e : k ≡ n = cc in
       ap (λ (z : ℕ). data_in (Packet z) unread) e
 
   -- as the TP at hand was heard so far
   heard_so : (a : Amid s xs unread held r done m) → Hears tp (done + 1) a.receiver a.room a.lines r m
-  heard_so a = subst (λ (d : List ℕ). Hears d (done + 1) a.receiver a.room a.lines r m) (same_tp a.size a.at_hand_lem) a.heard
+  heard_so a = subst (λ (d : List ℕ). Hears d (done + 1) a.receiver a.room a.lines r m) (same_tp a.size a.tp_at_hand) a.heard
 
   module _ (ms : List ℕ) (r' : Receiver) (m' : List ℕ) where
     more_lines : (a : Amid s xs unread held r done m) → held ++ ms ≡ a.start ++ (a.lines ++ ms)
     more_lines a = ap (λ (z : List ℕ). z ++ ms) a.held_so ∙ append_assoc a.start a.lines ms
 
     go_amid : Hears tp (done + 1) r m ms r' m' → Between s xs held r done m ⊎ Amid s xs unread held r done m → Amid s xs unread (held ++ ms) r' done m'
-    go_amid h (inl b) = record { size = n; at_hand_lem = whole; start = held; receiver = r; room = m; between = b; lines = ms; heard = h; held_so = refl }
+    go_amid h (inl b) = record { size = n; tp_at_hand = whole; start = held; receiver = r; room = m; between = b; lines = ms; heard = h; held_so = refl }
     go_amid h (inr a) = record {
       size = n;
-      at_hand_lem = whole;
+      tp_at_hand = whole;
       start = a.start;
       receiver = a.receiver;
       room = a.room;
@@ -94,7 +94,7 @@ module _ (s : Setting) (xs : List Input) (unread held : List ℕ) (r : Receiver)
 go_told : (s : Setting) (xs : List Input) (unread held : List ℕ) (r : Receiver) (done : ℕ) (m : List ℕ) → at_hand Listing unread ≡ Whole Gap
     → Between s xs held r done m ⊎ Amid s xs unread held r done m → Between s xs held r done m
 go_told s xs unread held r done m whole (inl b) = b
-go_told s xs unread held r done m whole (inr a) = let other : Whole (Packet a.size) ≡ Whole Gap = sym a.at_hand_lem ∙ whole in let z : ◌≡◌ {A = ℕ} 0 1 = cc in absurd (omega arith)
+go_told s xs unread held r done m whole (inr a) = let other : Whole (Packet a.size) ≡ Whole Gap = sym a.tp_at_hand ∙ whole in let z : ◌≡◌ {A = ℕ} 0 1 = cc in absurd (omega arith)
 
 -- ---- the records of a block
 
@@ -152,13 +152,13 @@ read_on_lem {s} {input} {unread} {held} {r} {done} {m} t more =
     amid : Amid s (inputs_in t.records) unread held r done m → Amid s (inputs_in t.records) (unread ++ more) held r done m
     amid a = record {
       size = a.size;
-      at_hand_lem = more_whole Listing unread more (Packet a.size) a.at_hand_lem;
+      tp_at_hand = more_whole Listing unread more (Packet a.size) a.tp_at_hand;
       start = a.start;
       receiver = a.receiver;
       room = a.room;
       between = a.between;
       lines = a.lines;
-      heard = subst⁻¹ (λ (d : List ℕ). Hears d (done + 1) a.receiver a.room a.lines r m) (more_data Listing unread more (Packet a.size) a.at_hand_lem) a.heard;
+      heard = subst⁻¹ (λ (d : List ℕ). Hears d (done + 1) a.receiver a.room a.lines r m) (more_data Listing unread more (Packet a.size) a.tp_at_hand) a.heard;
       held_so = a.held_so;
     }
 
@@ -186,7 +186,7 @@ whole_listing {s} {input} {unread} {held} {r} {m} g =
         let b = tp_begun s xs a.start a.receiver r.done a.room a.between (data_in (Packet a.size) unread) a.heard in
         record {
           size = a.size;
-          at_hand_lem = a.at_hand_lem;
+          tp_at_hand = a.tp_at_hand;
           first = a.lines;
           others = b.0;
           begun = a.held_so ∙ ap (λ (z : List ℕ). z ++ a.lines) (held_is s xs a.start a.receiver r.done a.room a.between);

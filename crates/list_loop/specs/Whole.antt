@@ -55,7 +55,7 @@ pub data Goes (s : Setting) : List ℕ → List ℕ → List ℕ → Run → Lis
 -- where the output block is full within a TP: its first lines are held, and the others are still to come
 pub record Within (s : Setting) (records : List Item) (unread held : List ℕ) : Type 0 where
   pub size : ℕ
-  pub at_hand_lem : at_hand Listing unread ≡ Whole (Packet size)
+  pub tp_at_hand : at_hand Listing unread ≡ Whole (Packet size)
   pub first : List ℕ
   pub others : List ℕ
   pub begun : held ≡ listed s (inputs_in records) ++ first

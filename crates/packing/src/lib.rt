@@ -54,7 +54,7 @@ pub fn put_record(said: Record, data: &[u8], out: &mut [u8], at: usize) -> usize
 
 // What one record becomes; sp is a buffer for the source packet.
 pub fn turn(said: Record, data: &[u8], sp: &mut [u8], out: &mut [u8], at: usize) -> Packed
-    ensures { record { sp = sp.exit.now; block = record { bytes = out.new; at = result.at }; refused = result.refused } ≡ turn_of said «data».now sp.entry.now (record { bytes = out.old; at = at }) }
+    ensures { record { sp = sp.new; block = record { bytes = out.new; at = result.at }; refused = result.refused } ≡ turn_of said «data».now sp.old (record { bytes = out.old; at = at }) }
 {
     if !is_chapter11(said) {
         return Packed {

@@ -1,4 +1,4 @@
--- THE LOW-LATENCY WALK BY LIST IS THE WALK BY POSITION: what `lowPart` reads, and what stands behind it, is what the calls
+-- THE LOW-LATENCY WALK BY LIST IS THE WALK BY POSITION: what `low_part` reads, and what stands behind it, is what the calls
 -- walk. Both turns read the same LLEP, at `drop at tp`. Assumes nothing.
 use mathlib.Core.Path.{ap, refl, sym, ◌∙◌, ◌≡◌}
 use mathlib.Core.Bool.{Bool, cond, false, true}

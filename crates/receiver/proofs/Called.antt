@@ -81,7 +81,7 @@ pub data Calls (by : Receiver → Stamps) (tp : List ℕ) : Receiver → List �
       → Gives (call_as r (by r) tp m) q tp m' → (Ended q.find → ⊥) → Calls by tp q.receiver m' fs r' m''
       → Calls by tp r m (saying r.limit q.find q.about (data_of q.find tp m') ++ fs) r' m''
 
--- those of `next` are by `stampsOf`
+-- those of `next` are by `stamps_of`
 pub own : (r : Receiver) (tp m : List ℕ) (q : Step) (m' : List ℕ) → Gives (call_of r tp m) q tp m' → Gives (call_as r (stamps_of r) tp m) q tp m'
 unfolding call_of
 own r tp m q m' g = g

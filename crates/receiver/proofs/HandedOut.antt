@@ -1,5 +1,5 @@
 -- THE SENTENCE OF WHAT THE CALLS HAND OUT: each ordinary packet among the finds of a receiver's life, from its opening on,
--- was read as `one-packet` says. A packet among the finds comes from one event. Assumes nothing.
+-- was read as `one_packet` says. A packet among the finds comes from one event. Assumes nothing.
 use mathlib.Core.Path.{ap, refl, subst, sym, ◌∙◌, ◌≡◌}
 use mathlib.Core.Logic.{inl, inr, ◌⊎◌}
 use mathlib.Core.Bool.{Bool, cond, false, true}

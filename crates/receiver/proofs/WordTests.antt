@@ -17,6 +17,15 @@ shift_le n k c h = go (leb (k + n) c) refl
 pub past : (n k c : ℕ) → c < k → false ≡ leb (k + n) c
 past n k c h = sym (lt-leb (k + n) c (omega arith))
 
+over_two : (n : ℕ) → (n ≡ 0 → ⊥) → (n ≡ 1 → ⊥) → (n ≡ 2 → ⊥) → 2 < n
+over_two n a b c = omega (arith, a, b, c)
+
+past_two : (n : ℕ) → 2 < n → (n ≡ 3 → ⊥) → (n ≡ 4 → ⊥) → (n ≡ 5 → ⊥) → 5 < n
+past_two n h d e f = omega (arith, h, d, e, f)
+
+pub over_five : (n : ℕ) → (n ≡ 0 → ⊥) → (n ≡ 1 → ⊥) → (n ≡ 2 → ⊥) → (n ≡ 3 → ⊥) → (n ≡ 4 → ⊥) → (n ≡ 5 → ⊥) → 5 < n
+over_five n a b c d e f = past_two n (over_two n a b c) d e f
+
 -- ---- by a sort
 
 module _ (s : ℕ) where

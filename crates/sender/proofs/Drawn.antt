@@ -57,7 +57,7 @@ topped d₂ h x y lx lh e = rw (take-length, e, lh, drop_at x y 4 lx) refl
 -- the two queues lie in buffers of the opening's lengths
 module _ (s : Sender) (w : Sound s) where
   pub kept_low : (low : List ℕ) → length low ≡ s.setting.lowspace → Kept low s.low
-  kept_low low e = record { head = rw e w.low_head_lem; len = rw e w.low_len }
+  kept_low low e = record { head = rw e w.head_of_low; len = rw e w.low_len }
 
   pub kept_own : (own : List ℕ) → length own ≡ s.setting.space → Kept own s.ordinary
   kept_own own e = record { head = rw e w.head; len = rw e w.len }
@@ -108,7 +108,7 @@ module _ (s : Sender) (w : Sound s) (low own d d₁ d₂ : List ℕ) (t u : Ring
   pub still_sound : (rest : ℕ) → rest ≤ s.ordinary.len - n → Sound (record { setting = s.setting; low = t; ordinary = u; owed = ow; rest = rest })
   unfolding off
   still_sound rest h =
-      let lh = w.low_head_lem in
+      let lh = w.head_of_low in
       let ll = w.low_len in
       let oh = w.head in
       let ol = w.len in
@@ -125,7 +125,7 @@ module _ (s : Sender) (w : Sound s) (low own d d₁ d₂ : List ℕ) (t u : Ring
         piece_most = w.piece_most;
         lowspace = w.lowspace;
         space = w.space;
-        low_head_lem = rw te (wrapped s.setting.lowspace (s.low.head + N) (omega arith));
+        head_of_low = rw te (wrapped s.setting.lowspace (s.low.head + N) (omega arith));
         low_len = rw te (omega arith);
         head = rw ue (wrapped s.setting.space (s.ordinary.head + n) (omega arith));
         len = rw ue (omega arith);

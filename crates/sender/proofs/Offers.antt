@@ -107,7 +107,7 @@ module _ (s : Sender) (low ordinary : List ℕ) (c : ℕ) (d : List ℕ) where
         piece_most = w.piece_most;
         lowspace = w.lowspace;
         space = w.space;
-        low_head_lem = w.low_head_lem;
+        head_of_low = w.head_of_low;
         low_len = w.low_len;
         head = rw rh w.head;
         len = omega arith;
@@ -165,7 +165,7 @@ module _ (s : Sender) (low ordinary : List ℕ) (c : ℕ) (d : List ℕ) where
         piece_most = w.piece_most;
         lowspace = w.lowspace;
         space = w.space;
-        low_head_lem = rw rh w.low_head_lem;
+        head_of_low = rw rh w.head_of_low;
         low_len = omega arith;
         head = w.head;
         len = w.len;

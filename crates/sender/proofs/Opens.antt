@@ -42,7 +42,7 @@ module _ (tp stream F low ordinary : ℕ) where
             piece_most = l.piece_most;
             lowspace = g;
             space = h;
-            low_head_lem = omega arith;
+            head_of_low = omega arith;
             low_len = omega arith;
             head = omega arith;
             len = omega arith;

@@ -80,7 +80,7 @@ sound_if s e =
       piece_most = g.piece_most;
       lowspace = l.space_most;
       space = o.space_most;
-      low_head_lem = l.head;
+      head_of_low = l.head;
       low_len = l.len;
       head = o.head;
       len = o.len;
@@ -92,7 +92,7 @@ pub if_sound : (s : Sender) → Sound s → sound s ≡ true
 unfolding sound sound_setting sound_ring
 if_sound s h =
     both _ _ (both _ _ (le-leb _ _ h.payload_least) (both _ _ (le-leb _ _ h.payload_most) (both _ _ (le-leb _ _ h.stream) (both _ _ (le-leb _ _ h.piece_least) (le-leb _ _ h.piece_most)))))
-    (both _ _ (both _ _ (le-leb _ _ h.lowspace) (both _ _ (le-leb _ _ h.low_head_lem) (le-leb _ _ h.low_len)))
+    (both _ _ (both _ _ (le-leb _ _ h.lowspace) (both _ _ (le-leb _ _ h.head_of_low) (le-leb _ _ h.low_len)))
     (both _ _ (both _ _ (le-leb _ _ h.space) (both _ _ (le-leb _ _ h.head) (le-leb _ _ h.len)))
     (both _ _ (le-leb _ _ h.owed) (le-leb _ _ h.rest))))
 

@@ -40,7 +40,7 @@ pub record Sound (s : Sender) : Type 0 where
   pub piece_most : s.setting.piece ≤ 65535
   pub lowspace : s.setting.lowspace ≤ 1048576
   pub space : s.setting.space ≤ 1048576
-  pub low_head_lem : s.low.head ≤ s.setting.lowspace
+  pub head_of_low : s.low.head ≤ s.setting.lowspace
   pub low_len : s.low.len ≤ s.setting.lowspace
   pub head : s.ordinary.head ≤ s.setting.space
   pub len : s.ordinary.len ≤ s.setting.space

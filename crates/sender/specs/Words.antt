@@ -28,7 +28,7 @@ sender_in w =
       rest = get_or w 10 0;
     }
 
--- ---- `Opening.Sound` as a test (theorems `Worded.sound-if` and `Worded.if-sound`)
+-- ---- `Opening.Sound` as a test (theorems `Worded.sound_if` and `Worded.if_sound`)
 
 unfoldable pub sound_setting : Setting → Bool
 sound_setting g = leb 12 g.payload && (leb g.payload 2047 && (leb g.stream 15 && (leb 1 g.piece && leb g.piece 65535)))

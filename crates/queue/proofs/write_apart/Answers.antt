@@ -1,4 +1,4 @@
--- `queue::write_apart` meets its contract, by the law `write-both`. Assumes nothing.
+-- `queue::write_apart` meets its contract, by the law `write_both`. Assumes nothing.
 use mathlib.Core.Path.{◌≡◌}
 use lib.ListN.{length}
 use Rattle.queue.proofs.Puts.{write_both}

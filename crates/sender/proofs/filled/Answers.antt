@@ -1,4 +1,4 @@
--- `sender::filled` meets its contract: each refusal, or a TP by the laws `finished` and `still-sound`. Assumes nothing.
+-- `sender::filled` meets its contract: each refusal, or a TP by the laws `finished` and `still_sound`. Assumes nothing.
 use mathlib.Core.Path.{◌≡◌, refl, sym, ap, ◌∙◌}
 use mathlib.Core.Bool.{false}
 use Rattle.queue.specs.Ring.{held}

@@ -42,7 +42,7 @@ put_ep-t-requires c =
     let m = f.1.0 in
     let n = f.1.1 in
     let o = ap length (one_piece 65535 a.content a.sp.now (omega arith)) ∙ ep_length a.content 0 a.sp.now in
-    let wh = c.requires.low_head_lem in
+    let wh = c.requires.head_of_low in
     let wl = c.requires.low_len in
     record { kept = record { head = omega arith; len = omega arith }; body_in_bounds = omega arith }
 

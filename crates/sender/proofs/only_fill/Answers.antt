@@ -1,4 +1,4 @@
--- `sender::only_fill` meets its contract, by the laws `fill-drawn` and `fill-sound`. Assumes nothing.
+-- `sender::only_fill` meets its contract, by the laws `fill_drawn` and `fill_sound`. Assumes nothing.
 use Rattle.sender.proofs.Drawn.{fill_drawn, fill_sound}
 use Rattle.sender.proofs.only_fill.Goals as goal
 

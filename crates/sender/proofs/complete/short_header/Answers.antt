@@ -1,4 +1,4 @@
--- `complete::short_header` meets its contract, by the law `short-is`. Assumes nothing.
+-- `complete::short_header` meets its contract, by the law `short_is`. Assumes nothing.
 use mathlib.Core.Path.{ap, ◌∙◌}
 use mathlib.Core.List.{List, ◌++◌}
 use Prim.Native.Nat.{ℕ}

@@ -1,4 +1,4 @@
--- `reading::size_at` meets its contract: by four bytes of one run, with the law `size-four`, or by the whole header. Assumes nothing.
+-- `reading::size_at` meets its contract: by four bytes of one run, with the law `size_four`, or by the whole header. Assumes nothing.
 use mathlib.Core.Path.{ap, ◌∙◌}
 use Prim.Native.Nat.{ℕ, ◌+◌}
 use native.Mathlib.Omega.{arith}

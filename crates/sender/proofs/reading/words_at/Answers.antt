@@ -1,4 +1,4 @@
--- `reading::words_at` meets its contract: of one run, by `words-run`, or of the whole header. Assumes nothing.
+-- `reading::words_at` meets its contract: of one run, by `words_run`, or of the whole header. Assumes nothing.
 use mathlib.Core.Path.{◌∙◌}
 use Prim.Native.Nat.{ℕ, ◌+◌}
 use native.Mathlib.Omega.{arith}
