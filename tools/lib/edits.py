@@ -12,7 +12,7 @@ class Bad(Exception):
 
 
 class Edit:
-    """Lines 'file: PATH' (under src/, specs/ or proofs/), 'old: TEXT' (in that file once) and 'new: TEXT', one pair or more."""
+    """Lines 'file: PATH' (under src/ or specs/), 'old: TEXT' (in that file once) and 'new: TEXT', one pair or more."""
 
     def __init__(self, path):
         self.label = os.path.basename(path).removesuffix('.edit')
@@ -31,8 +31,8 @@ class Edit:
         if not self.changes:
             raise Bad("BAD EDIT: it has no 'old:' and 'new:' pair")
         for file, old, new in self.changes:
-            if not file or not re.match('(src|specs|proofs)/', file) or '..' in file or not os.path.isfile(f'{crate}/{file}'):
-                raise Bad(f'BAD EDIT: no file {file} under src/, specs/ or proofs/')
+            if not file or not re.match('(src|specs)/', file) or '..' in file or not os.path.isfile(f'{crate}/{file}'):
+                raise Bad(f'BAD EDIT: no file {file} under src/ or specs/')
             text = read(crate, file)
             if not old or text.count(old) != 1:
                 raise Bad(f"BAD EDIT: its 'old:' text stands {text.count(old) if old else 0} times in {file}")
@@ -88,6 +88,27 @@ def facts(said, crate):
         told = re.match(r'(?:note: )?(?:\./)?((\S+?):(\d+):\d+): (error: .*|it is not proved .*)', line)
         if told and not BEHIND.search(told[4]):
             yield owner(crate, told[2], int(told[3])), told[1], told[4]
+
+
+NAMES = re.compile(r'^(?:\./)?(proofs/\S+?\.antt):\d+:\d+: error: .* has no field `(\S+)` \(nearest: \.([^,)\s]+)', re.M)
+
+
+def renamed(said):
+    """Steps that an edit gave other names, since a step is named after what it tests or calls: (file of the proof, the name
+    there, the nearest that the check tells) for each."""
+    return sorted(set(NAMES.findall(said)))
+
+
+def carried(text, old, new):
+    """A proof's text with a step's new name, also where goals are named after it."""
+    def word(found):
+        name, was, now = found[0], old.removeprefix('if-'), new.removeprefix('if-')
+        if name == old:
+            return new
+        if re.match(r'returns-|.*-(then|else|in)-', name) or name.startswith(f'{old}-'):
+            return re.sub(rf'(?<![^-]){re.escape(was)}(?![^-])', lambda _: now, name)
+        return name
+    return re.sub(r'[^\s.(){},;]+', word, text)
 
 
 def owner(crate, file, line):
