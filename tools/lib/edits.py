@@ -90,27 +90,6 @@ def facts(said, crate):
             yield owner(crate, told[2], int(told[3])), told[1], told[4]
 
 
-NAMES = re.compile(r'^(?:\./)?(proofs/\S+?\.antt):\d+:\d+: error: .* has no field `(\S+)` \(nearest: \.([^,)\s]+)', re.M)
-
-
-def renamed(said):
-    """Steps that an edit gave other names, since a step is named after what it tests or calls: (file of the proof, the name
-    there, the nearest that the check tells) for each."""
-    return sorted(set(NAMES.findall(said)))
-
-
-def carried(text, old, new):
-    """A proof's text with a step's new name, also where goals are named after it."""
-    def word(found):
-        name, was, now = found[0], old.removeprefix('if-'), new.removeprefix('if-')
-        if name == old:
-            return new
-        if re.match(r'returns-|.*-(then|else|in)-', name) or name.startswith(f'{old}-'):
-            return re.sub(rf'(?<![^-]){re.escape(was)}(?![^-])', lambda _: now, name)
-        return name
-    return re.sub(r'[^\s.(){},;]+', word, text)
-
-
 def owner(crate, file, line):
     """The function that a place in a source file, or in a function's own proof, belongs to."""
     if file.startswith('src/'):
