@@ -1,16 +1,13 @@
 -- A number's decimal digits, counted from the last one on and written from the last one on. Assumes nothing.
-use Prim.Native.Nat.{ℕ, zero, suc, ◌+◌, ◌-◌, ◌*◌, ◌/◌, ◌%◌, ◌^◌, ◌≤◌, ◌<◌}
-use mathlib.Core.Path.{◌≡◌, refl, ap, sym, subst⁻¹, ◌∙◌}
-use mathlib.Core.List.{List, [], ◌∷◌, ◌++◌, append_assoc, append-nil}
+use Prim.Native.Nat.{ℕ, zero, suc, ◌+◌, ◌*◌, ◌/◌, ◌%◌, ◌^◌, ◌≤◌, ◌<◌, max}
+use mathlib.Core.Path.{◌≡◌, refl, ap, ◌∙◌}
+use mathlib.Core.List.{List, [], ◌∷◌, ◌++◌}
 use native.Mathlib.Nat.{pow-suc, div-lt_iff_lt-mul}
 use mathlib.Core.Bool.{Bool, true, false, cond}
 use lib.Dec.{ltb}
-use lib.ListN.{length, take, drop, set, length-append, take-append-drop}
-use lib.Seq.{length-take-le, take-suc, set_at}
+use lib.ListN.{length, length-append}
 use native.Mathlib.Omega.{arith}
-use borrow.Author.Tests.{lt-ltb, le-ltb}
-use lib.ListN.{get_or}
-use Rattle.block.specs.Block.{placed}
+use borrow.Author.Tests.{lt-ltb, le-ltb, ltb-true}
 use Rattle.block.specs.Decimal.{decimal_in, decimal, padded}
 
 -- ---- the definition's two cases
@@ -55,117 +52,34 @@ padded_long (suc k) n = length-append (padded k (n / 10)) ((48 + n % 10) ∷ [])
     sums : (a b : ℕ) → a ≡ b → a + 1 ≡ suc b
     sums a b e = omega arith
 
--- ---- counted: k digits are counted, and those of rest are not
+power_some : (k : ℕ) → 1 ≤ 10 ^ k
+power_some zero = omega arith
+power_some (suc k) = let power : 10 ^ suc k ≡ 10 ^ k * 10 = pow-suc 10 k in omega (arith, power_some k)
 
-pub record Counted (n k rest : ℕ) : Type 0 where
-  pub fuel : ℕ
-  pub most : rest < 10 ^ suc fuel
-  pub sum : k + length (decimal_in (suc fuel) rest) ≡ 1 + length (decimal n)
+-- how many digits a number has between two powers of ten
+pub digits_count : (j k n : ℕ) → k ≤ j → 10 ^ k ≤ max n 1 → n < 10 * 10 ^ k → length (decimal_in (suc j) n) ≡ k + 1
+digits_count j zero n le low high = ap length (single j n (omega (arith, high)))
+digits_count zero (suc k) n le low high = absurd (omega arith)
+digits_count (suc j) (suc k) n le low high =
+    let power : 10 ^ suc k ≡ 10 ^ k * 10 = pow-suc 10 k in
+    let positive = power_some k in
+    let some : 10 ≤ n = omega arith in
+    ap length (last (suc j) n some)
+    ∙ length-append (decimal_in (suc j) (n / 10)) ((48 + n % 10) ∷ [])
+    ∙ ap (λ (x : ℕ). x + 1) (digits_count j k (n / 10) (omega arith) (omega arith) (omega arith) ∙ omega arith)
 
-pub count_none : (n : ℕ) → n < 18446744073709551616 → Counted n 1 n
+-- its last digits are all, where they are as many
+padded_same : (j n : ℕ) → padded (length (decimal_in j n)) n ≡ decimal_in j n
+padded_same zero n = refl
+padded_same (suc j) n = go (padded_same j (n / 10)) (ltb n 10) refl
+  where
+    go : padded (length (decimal_in j (n / 10))) (n / 10) ≡ decimal_in j (n / 10) → (t : Bool) → ltb n 10 ≡ t → padded (length (cond t ((48 + n) ∷ []) (decimal_in j (n / 10) ++ (48 + n % 10) ∷ []))) n ≡ cond t ((48 + n) ∷ []) (decimal_in j (n / 10) ++ (48 + n % 10) ∷ [])
+    go rest true e = let same : n % 10 ≡ n = omega (arith, ltb-true n 10 e) in ap (λ (x : ℕ). (48 + x) ∷ []) same
+    go rest false e =
+        let longer : length (decimal_in j (n / 10) ++ (48 + n % 10) ∷ []) ≡ suc (length (decimal_in j (n / 10))) =
+        length-append (decimal_in j (n / 10)) ((48 + n % 10) ∷ []) ∙ omega arith in
+        ap (λ (k : ℕ). padded k n) longer ∙ ap (λ (x : List ℕ). x ++ (48 + n % 10) ∷ []) rest
+
+pub padded_all : (n : ℕ) → padded (length (decimal n)) n ≡ decimal n
 unfolding decimal
-count_none n h = record { fuel = 19; most = omega arith; sum = refl }
-
-module _ (n k rest : ℕ) where
-  pub count_one : Counted n k rest → 10 ≤ rest → Counted n (k + 1) (rest / 10)
-  count_one c h = go c.fuel c.most c.sum
-    where
-      go : (j : ℕ) → rest < 10 ^ suc j → k + length (decimal_in (suc j) rest) ≡ 1 + length (decimal n) → Counted n (k + 1) (rest / 10)
-      go zero m s = absurd (omega arith)
-      go (suc j) m s =
-          let longer : length (decimal_in (suc (suc j)) rest) ≡ length (decimal_in (suc j) (rest / 10)) + 1 = ap length (last (suc j) rest h) ∙ length-append (decimal_in (suc j) (rest / 10)) ((48 + rest % 10) ∷ []) in
-          record { fuel = j; most = fewer j rest m; sum = omega arith }
-
-  pub count_few : Counted n k rest → k ≤ 20
-  count_few c = omega (arith, c.sum, decimal_most n, some c.fuel rest)
-
-  pub count_all_lem : Counted n k rest → rest < 10 → k ≡ length (decimal n)
-  count_all_lem c h = let one : length (decimal_in (suc c.fuel) rest) ≡ 1 = ap length (single c.fuel rest h) in omega (arith, c.sum)
-
--- ---- written: the digits behind index i stand before index end, and those of rest are still to be written
-
-pub record Spelt (d : List ℕ) (end n : ℕ) (out : List ℕ) (i rest : ℕ) : Type 0 where
-  pub fuel : ℕ
-  pub most : rest < 10 ^ suc fuel
-  pub done : List ℕ
-  pub all : decimal_in (suc fuel) rest ++ done ≡ decimal n
-  pub place : i + 1 + length done ≡ end
-  pub bytes : out ≡ take (suc i) d ++ (done ++ drop end d)
-
-module _ (d : List ℕ) (end n : ℕ) (room : length (decimal n) ≤ end) (within : end ≤ length d) where
-  pub spelt_none : n < 18446744073709551616 → Spelt d end n d (end - 1) n
-  unfolding decimal
-  spelt_none h =
-      let some_end : 1 ≤ end = omega (arith, decimal_some n) in
-      let back : suc (end - 1) ≡ end = omega arith in
-      record {
-        fuel = 19;
-        most = omega arith;
-        done = [];
-        all = append-nil (decimal_in 20 n);
-        place = omega arith;
-        bytes = sym (ap (λ (k : ℕ). take k d ++ drop end d) back ∙ take-append-drop end d);
-      }
-
-  module _ (out : List ℕ) (i rest : ℕ) (s : Spelt d end n out i rest) where
-    before : i < length d
-    before = omega (arith, s.place)
-
-    -- the digit at i, and what follows it
-    opened : out ≡ take i d ++ (get_or d i 0 ∷ (s.done ++ drop end d))
-    opened =
-        s.bytes
-        ∙ ap (λ (x : List ℕ). x ++ (s.done ++ drop end d)) (take-suc d i 0 before)
-        ∙ append_assoc (take i d) (get_or d i 0 ∷ []) (s.done ++ drop end d)
-
-    front : length (take i d) ≡ i
-    front = length-take-le i d (omega (arith, before))
-
-    pub spelt_in : i < length out
-    spelt_in = omega (arith, ap length opened, length-append (take i d) (get_or d i 0 ∷ (s.done ++ drop end d)), front)
-
-    wrote : (v : ℕ) → set out i v ≡ take i d ++ (v ∷ (s.done ++ drop end d))
-    wrote v = ap (λ (x : List ℕ). set x i v) opened ∙ set_at (take i d) (get_or d i 0) (s.done ++ drop end d) v i front
-
-    total : length (decimal_in (suc s.fuel) rest) + length s.done ≡ length (decimal n)
-    total = sym (length-append (decimal_in (suc s.fuel) rest) s.done) ∙ ap length s.all
-
-    split : 10 ≤ rest → (j : ℕ) × ((rest < 10 ^ suc (suc j)) × (s.fuel ≡ suc j))
-    split h = go s.fuel s.most refl
-      where
-        go : (f : ℕ) → rest < 10 ^ suc f → s.fuel ≡ f → (j : ℕ) × ((rest < 10 ^ suc (suc j)) × (s.fuel ≡ suc j))
-        go zero m e = absurd (omega arith)
-        go (suc j) m e = (j, (m, e))
-
-    pub spelt_on : 10 ≤ rest → 1 ≤ i
-    spelt_on h =
-        let f = split h in
-        let two : length (decimal_in (suc s.fuel) rest) ≡ length (decimal_in s.fuel (rest / 10)) + 1 = ap length (last s.fuel rest h) ∙ length-append (decimal_in s.fuel (rest / 10)) ((48 + rest % 10) ∷ []) in
-        let one : 1 ≤ length (decimal_in s.fuel (rest / 10)) = subst⁻¹ (λ (x : ℕ). 1 ≤ length (decimal_in x (rest / 10))) f.1.1 (some f.0 (rest / 10)) in
-        omega (arith, s.place, total)
-
-    pub spelt_one : 10 ≤ rest → Spelt d end n (set out i (48 + rest % 10)) (i - 1) (rest / 10)
-    spelt_one h =
-        let f = split h in
-        let v = 48 + rest % 10 in
-        let back : suc (i - 1) ≡ i = omega (arith, spelt_on h) in
-        record {
-          fuel = f.0;
-          most = fewer f.0 rest f.1.0;
-          done = v ∷ s.done;
-          all = sym (append_assoc (decimal_in (suc f.0) (rest / 10)) (v ∷ []) s.done) ∙ ap (λ (x : ℕ). decimal_in x (rest / 10) ++ (v ∷ []) ++ s.done) (sym f.1.1) ∙ ap (λ (x : List ℕ). x ++ s.done) (sym (last s.fuel rest h)) ∙ s.all;
-          place = omega (arith, s.place, spelt_on h);
-          bytes = wrote v ∙ ap (λ (k : ℕ). take k d ++ (v ∷ (s.done ++ drop end d))) (sym back);
-        }
-
-    pub spelt_all : rest < 10 → set out i (48 + rest) ≡ placed d (end - length (decimal n)) (decimal n)
-    spelt_all h =
-        let digits : (48 + rest) ∷ s.done ≡ decimal n = ap (λ (x : List ℕ). x ++ s.done) (sym (single s.fuel rest h)) ∙ s.all in
-        let long : 1 + length s.done ≡ length (decimal n) = omega (arith, ap length digits) in
-        let start : i ≡ end - length (decimal n) = omega (arith, s.place) in
-        let stop : end ≡ end - length (decimal n) + length (decimal n) = omega arith in
-        wrote (48 + rest)
-        ∙ ap (λ (x : List ℕ). take i d ++ (x ++ drop end d)) digits
-        ∙ sym (append_assoc (take i d) (decimal n) (drop end d))
-        ∙ ap (λ (k : ℕ). take k d ++ decimal n ++ drop end d) start
-        ∙ ap (λ (k : ℕ). take (end - length (decimal n)) d ++ decimal n ++ drop k d) stop
+padded_all n = padded_same 20 n

@@ -1,5 +1,5 @@
 -- What is put in two goes is put in one: so a line is put piece by piece. Assumes nothing.
-use Prim.Native.Nat.{ℕ, ◌+◌, ◌-◌, ◌≤◌, ◌<◌, min}
+use Prim.Native.Nat.{ℕ, ◌+◌, ◌-◌, ◌≤◌, ◌<◌}
 use mathlib.Core.Path.{◌≡◌, refl, ap, ap₂, sym, ◌∙◌}
 use mathlib.Core.Bool.{Bool, true, false, cond}
 use mathlib.Core.List.{List, [], ◌++◌, append_assoc, append-nil}
@@ -7,9 +7,8 @@ use native.Mathlib.Omega.{arith}
 use borrow.Author.Tests.{le-leb, lt-leb}
 use borrow.Rule.Slice.PartMut.{put_mid, Post-is}
 use lib.Dec.{leb}
-use lib.ListN.{length, take, drop, length-append, length-drop, drop_of_length-le, take-append-drop}
-use lib.Seq.{take-length, length-take-le, take_at, drop-drop, drop-append-add, take-append-le, take-append-add}
-use Rattle.queue.specs.Ring.{copied}
+use lib.ListN.{length, take, drop, length-append, length-drop, take-append-drop}
+use lib.Seq.{length-take-le, take_at, drop-drop, drop-append-add, take-append-le, take-append-add}
 use Rattle.block.specs.Block.{Block, placed, put}
 
 pub fits : (d : List ℕ) (n : ℕ) (s : List ℕ) → n + length s ≤ length d → put d n s ≡ record { bytes = placed d n s; at = n + length s }
@@ -20,24 +19,11 @@ pub misfits : (d : List ℕ) (n : ℕ) (s : List ℕ) → length d < n + length 
 unfolding put
 misfits d n s h = rw (lt-leb _ _ h)
 
-pub copies : (d : List ℕ) (n : ℕ) (s : List ℕ) → n + length s ≤ length d → copied d n s ≡ placed d n s
-copies d n s h =
-    let e : min (length s) (length d - n) ≡ length s = omega arith in
-    rw (e, take-length)
-
--- s copied over a part that is as long as s, and the part put back
-over : (x s : List ℕ) → length x ≡ length s → copied x 0 s ≡ s
-over x s e =
-    let all : length x ≤ 0 + length s = omega arith in
-    copies x 0 s (omega arith) ∙ ap (λ (y : List ℕ). s ++ y) (drop_of_length-le x all) ∙ append-nil s
-
-pub in_part : (d s b : List ℕ) (n : ℕ) → n + length s ≤ length d → b ≡ copied (take (n + length s - n) (drop n d)) 0 s
-    → put_mid n (n + length s - n) d b ≡ placed d n s
+-- a part that is as long as s, and becomes s
+pub in_part : (d s b : List ℕ) (n : ℕ) → n + length s ≤ length d → b ≡ s → put_mid n (n + length s - n) d b ≡ placed d n s
 in_part d s b n h e =
-    let size : n + length s - n ≡ length s = omega arith in
-    let long : length (take (n + length s - n) (drop n d)) ≡ length s = ap (λ (k : ℕ). length (take k (drop n d))) size ∙ length-take-le (length s) (drop n d) (rw length-drop (omega arith)) in
     ap (λ (x : List ℕ). take n d ++ (b ++ x)) (Post-is n (n + length s) d (omega arith))
-    ∙ ap (λ (x : List ℕ). take n d ++ (x ++ drop (n + length s) d)) (e ∙ over (take (n + length s - n) (drop n d)) s long)
+    ∙ ap (λ (x : List ℕ). take n d ++ (x ++ drop (n + length s) d)) e
     ∙ sym (append_assoc (take n d) s (drop (n + length s) d))
 
 -- what is held then

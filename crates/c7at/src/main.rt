@@ -7,34 +7,26 @@ ghost use Rattle.index_loop.specs.Walking.{Walked};
 
 mod heads;
 
-use console::BLOCKS;
-use files::{Begun, Got, Word};
+use console::{BLOCKS, Console, SIZE};
+use heads::Stopped;
 use house::{Fault, Setup};
 use index_loop::{Stop, Task, Walk};
 use jumping::Wanted;
-use receiver::Opened;
 use std::fs::File;
 
-// What is asked for, if it is asked for rightly.
-#[derive(Clone, Copy)]
-enum Asked {
-    Wrongly,
-    Packet(Wanted),
-}
-
 // Says why there is no packet.
-fn tell(rt: &HostRuntime, stop: Stop, begin: u64) {
+fn tell(console: Console<'_>, stop: Stop, begin: u64) {
     match stop {
         Stop::More => {}
-        Stop::End => console::say(rt, b"c7at", b"no such packet\n"),
-        Stop::Bad(fault) => console::stop(rt, b"c7at", begin, fault),
-        Stop::Unreadable => console::say(rt, b"c7at", b"cannot read the recording\n"),
+        Stop::End => console.say("no such packet"),
+        Stop::Bad(fault) => console.stop(begin, fault),
+        Stop::Unreadable => console.say("cannot read the recording"),
     }
 }
 
 // Takes many blocks after many blocks, up to the packet.
 fn seek(
-    rt: &HostRuntime,
+    console: Console<'_>,
     recording: &File,
     wanted: Wanted,
     first: Walk,
@@ -45,126 +37,90 @@ fn seek(
     requires { Walked (length block.old) first }
 {
     let mut walk = first;
-    let mut left = BLOCKS;
-    while 0 < left {
+    for _ in 0..BLOCKS {
         walk = index_loop::advance(recording, Task::Seek(wanted), 1, walk, block, room, out);
         if 0 < walk.at {
-            console::flush(rt, b"c7at", out, walk.at);
+            console.flush(out, walk.at);
             return;
         }
-        let stop = walk.stop;
-        let Stop::More = stop else {
-            let unread = walk.unread;
-            tell(rt, stop, files::sum(unread.gone, unread.from as u64));
+        if !matches!(walk.stop, Stop::More) {
+            tell(console, walk.stop, console::begin_of(walk.unread));
             return;
-        };
-        left -= 1;
+        }
     }
 }
 
-fn from(rt: &HostRuntime, recording: &File, setup: Setup, wanted: Wanted, record: u64, byte: u64) {
+// Starts a receiver before the record that begins at this byte.
+fn from(console: Console<'_>, recording: &File, setup: Setup, wanted: Wanted, byte: u64) {
     let mut room = [0u8; 32768];
-    let Opened::Ready(receiver) = receiver::open(setup.tp, setup.stream, &room) else {
-        console::stop(rt, b"c7at", 0, Fault::Limits);
+    let Some(receiver) = receiver::open(setup.tp, setup.stream, &room) else {
+        console.stop(0, Fault::Limits);
         return;
     };
-    let mut block = [0u8; 131072];
+    let mut block = [0u8; SIZE];
     let mut out = [0u8; 65536];
-    let walk = index_loop::start(receiver, record, byte);
-    seek(rt, recording, wanted, walk, &mut block, &mut room, &mut out);
+    let walk = index_loop::start(receiver, wanted.record.max(1), byte);
+    seek(
+        console, recording, wanted, walk, &mut block, &mut room, &mut out,
+    );
 }
 
 // Finds the record, and starts there.
-fn jump(rt: &HostRuntime, recording: &File, wanted: Wanted) {
+fn jump(console: Console<'_>, recording: &File, wanted: Wanted) {
     let mut head = [0u8; 13];
-    let Got::Bytes(got) = files::read_at(recording, 0, &mut head) else {
-        console::say(rt, b"c7at", b"cannot read the recording\n");
+    let Some(n) = files::read_at(recording, 0, &mut head) else {
+        console.say("cannot read the recording");
         return;
     };
-    let n = queue::least(got, 13);
-    let Begun::Ready(setup) = files::setup_in(rt, b"c7at", &head[0..n]) else {
+    let Some(setup) = files::setup_in(console, &head[..n]) else {
         return;
     };
-    let reached = heads::walk(recording, wanted.record);
-    let stop = reached.stop;
-    let Stop::More = stop else {
-        tell(rt, stop, reached.byte);
-        return;
-    };
-    from(rt, recording, setup, wanted, reached.record, reached.byte);
+    match heads::walk(recording, wanted.record) {
+        Ok(byte) => from(console, recording, setup, wanted, byte),
+        Err(Stopped { byte, stop }) => tell(console, stop, byte),
+    }
 }
 
-fn is_low(word: &[u8]) -> bool {
-    if word.len() != 3 {
-        return false;
+// Whether a sort is the low-latency one.
+fn is_low(sort: &[u8]) -> Option<bool> {
+    match sort {
+        b"low" => Some(true),
+        b"ordinary" => Some(false),
+        _ => None,
     }
-    digits::from_three(word[0], word[1], word[2]) == 0x6C6F77
 }
 
-fn is_ordinary(word: &[u8]) -> bool {
-    if word.len() != 8 {
-        return false;
-    }
-    if digits::from_four(word[0], word[1], word[2], word[3]) != 0x6F726469 {
-        return false;
-    }
-    digits::from_four(word[4], word[5], word[6], word[7]) == 0x6E617279
-}
-
-fn number_of(rt: &HostRuntime, i: usize) -> Word {
+fn number_of(rt: &HostRuntime, i: usize) -> Option<u64> {
     let mut word = [0u8; 4096];
-    let n = files::put_word(rt, i, &mut word);
-    files::number_in(&word[..n])
+    files::number_in(files::word(rt, i, &mut word))
 }
 
-fn sorted(rt: &HostRuntime, record: u64, place: u64) -> Asked {
-    let mut word = [0u8; 4096];
-    let n = files::put_word(rt, 4, &mut word);
-    let sort = &word[..n];
-    if is_low(sort) {
-        return Asked::Packet(Wanted {
-            record,
-            place,
-            low: true,
-        });
-    }
-    if is_ordinary(sort) {
-        return Asked::Packet(Wanted {
-            record,
-            place,
-            low: false,
-        });
-    }
-    Asked::Wrongly
-}
-
-fn from_words(rt: &HostRuntime) -> Asked {
+// What is asked for, if it is asked for rightly.
+fn from_words(rt: &HostRuntime) -> Option<Wanted> {
     if !files::has_words(rt, 4) {
-        return Asked::Wrongly;
+        return None;
     }
-    let Word::Number(record) = number_of(rt, 2) else {
-        return Asked::Wrongly;
-    };
-    let Word::Number(place) = number_of(rt, 3) else {
-        return Asked::Wrongly;
-    };
-    sorted(rt, record, place)
+    let mut sort = [0u8; 4096];
+    Some(Wanted {
+        record: number_of(rt, 2)?,
+        place: number_of(rt, 3)?,
+        low: is_low(files::word(rt, 4, &mut sort))?,
+    })
 }
 
 fn main(rt: HostRuntime) {
-    let Asked::Packet(wanted) = from_words(&rt) else {
-        console::say(
-            &rt,
-            b"c7at",
-            b"asks for a recording, a record, a place, and low or ordinary\n",
-        );
+    let console = Console {
+        rt: &rt,
+        program: "c7at",
+    };
+    let Some(wanted) = from_words(&rt) else {
+        console.say("asks for a recording, a record, a place, and low or ordinary");
         return;
     };
     let mut path = [0u8; 4096];
-    let n = files::put_word(&rt, 1, &mut path);
-    let Some(recording) = files::open(&rt, &path[..n]) else {
-        console::say(&rt, b"c7at", b"cannot open the recording\n");
+    let Some(recording) = files::open(&rt, files::word(&rt, 1, &mut path)) else {
+        console.say("cannot open the recording");
         return;
     };
-    jump(&rt, &recording, wanted);
+    jump(console, &recording, wanted);
 }

@@ -4,11 +4,10 @@ ghost use Rattle.receiver.specs.State.{Able};
 ghost use Rattle.index_loop.specs.Walking.{Walked};
 
 use crate::index;
-use console::{BLOCKS, FULL};
+use console::{BLOCKS, Console, FULL, SIZE};
 use house::{Fault, Setup};
 use index_loop::{Stop, Task, Walk};
 use line_zero::Top;
-use receiver::{Opened, Unfinished};
 use std::fs::File;
 use std::io::{IsTerminal, Lock};
 
@@ -16,38 +15,25 @@ use std::io::{IsTerminal, Lock};
 fn top_behind(walk: Walk, size: u64) -> Top
     requires { Able walk.receiver }
 {
-    let receiver = walk.receiver;
-    let unread = walk.unread;
-    let end = files::sum(unread.gone, unread.from as u64);
-    match receiver::pending(receiver) {
-        Unfinished::Nothing => Top {
-            covered: walk.record,
-            since: 0,
-            end,
-            from: 0,
-            size,
-        },
-        Unfinished::From(place) => {
-            let stamp = place.stamp;
-            Top {
-                covered: walk.record,
-                since: stamp.number,
-                end,
-                from: stamp.byte,
-                size,
-            }
-        }
+    let (since, from) = match receiver::pending(walk.receiver) {
+        None => (0, 0),
+        Some(place) => (place.stamp.number, place.stamp.byte),
+    };
+    Top {
+        covered: walk.record,
+        since,
+        end: console::begin_of(walk.unread),
+        from,
+        size,
     }
 }
 
 // The lines are safe before line 0 counts them.
-fn commit(rt: &HostRuntime, beside: &File, top: Top) {
-    if beside.sync_data().is_ok() {
-        if index::write_top(beside, top) {
-            return;
-        }
+fn commit(console: Console<'_>, beside: &File, top: Top) {
+    let is_safe = beside.sync_data().is_ok() && index::write_top(beside, top);
+    if !is_safe {
+        console.say("cannot write the index");
     }
-    console::say(rt, b"c7index", b"cannot write the index\n");
 }
 
 // How far a long run is, where standard error is a terminal; what is said next takes its place.
@@ -55,47 +41,38 @@ fn show(rt: &HostRuntime, done: u64) {
     if !rt.stderr().lock().is_terminal() {
         return;
     }
-    let mut line = [0u8; 64];
-    let mut at = block::put(&mut line, 0, b"read so far: ");
-    at = block::put_number(&mut line, at, done / 1048576);
-    at = block::put(&mut line, at, b" MiB\r");
-    at = queue::least(at, 64);
-    streams::say(rt, &line[0..at]);
+    let done = done / 1048576;
+    let _ = eprint!(rt; "read so far: {done} MiB\r");
 }
 
 // Says what was wrong with the recording, and whether what was read can be committed.
-fn is_told(rt: &HostRuntime, stop: Stop, begin: u64) -> bool {
+fn is_told(console: Console<'_>, stop: Stop, begin: u64) -> bool {
     match stop {
-        Stop::More => true,
-        Stop::End => true,
+        Stop::More | Stop::End => true,
         Stop::Bad(fault) => {
-            console::stop(rt, b"c7index", begin, fault);
+            console.stop(begin, fault);
             true
         }
         Stop::Unreadable => {
-            console::say(rt, b"c7index", b"cannot read the recording\n");
+            console.say("cannot read the recording");
             false
         }
     }
 }
 
 // The recording's end, or what stands in its place, is reached.
-fn close(rt: &HostRuntime, beside: &File, covered: u64, walk: Walk, size: u64)
+fn close(console: Console<'_>, beside: &File, covered: u64, walk: Walk, size: u64)
     requires { Able walk.receiver }
 {
-    let unread = walk.unread;
-    let stop = walk.stop;
-    if !is_told(rt, stop, files::sum(unread.gone, unread.from as u64)) {
-        return;
-    }
-    if covered < walk.record {
-        commit(rt, beside, top_behind(walk, size));
+    let is_told = is_told(console, walk.stop, console::begin_of(walk.unread));
+    if is_told && covered < walk.record {
+        commit(console, beside, top_behind(walk, size));
     }
 }
 
 // Takes many blocks after many blocks, and appends their lines.
 fn onward(
-    rt: &HostRuntime,
+    console: Console<'_>,
     recording: &File,
     beside: &File,
     top: Top,
@@ -106,76 +83,55 @@ fn onward(
 )
     requires { Walked (length block.old) first }
 {
-    let covered = top.covered;
     let mut size = top.size;
     let mut walk = first;
-    let mut left = BLOCKS;
-    while 0 < left {
-        walk = index_loop::advance(
-            recording,
-            Task::Index(covered),
-            FULL,
-            walk,
-            block,
-            room,
-            out,
-        );
-        let at = queue::least(walk.at, out.len());
-        if !files::write_at(beside, size, &out[0..at]) {
-            console::say(rt, b"c7index", b"cannot write the index\n");
+    for _ in 0..BLOCKS {
+        let task = Task::Index(top.covered);
+        walk = index_loop::advance(recording, task, FULL, walk, block, room, out);
+        let at = walk.at.min(out.len());
+        if !files::write_at(beside, size, &out[..at]) {
+            console.say("cannot write the index");
             return;
         }
         size = files::sum(size, at as u64);
-        let stop = walk.stop;
-        let Stop::More = stop else {
-            close(rt, beside, covered, walk, size);
+        if !matches!(walk.stop, Stop::More) {
+            close(console, beside, top.covered, walk, size);
             return;
-        };
-        let unread = walk.unread;
-        show(rt, unread.gone);
+        }
+        show(console.rt, walk.unread.gone);
         walk = index_loop::emptied(walk);
-        left -= 1;
     }
 }
 
-// The record at which reading begins: that of what is unfinished, or else the first new one.
-fn first_record(top: Top) -> u64 {
+// The record at which reading begins, and its first byte: that of what is unfinished, or else the first new one.
+fn first_of(top: Top) -> (u64, u64) {
     if top.since == 0 {
-        return top.covered;
+        return (top.covered, top.end);
     }
-    top.since
-}
-
-fn first_byte(top: Top) -> u64 {
-    if top.since == 0 {
-        return top.end;
-    }
-    top.from
+    (top.since, top.from)
 }
 
 // Bytes behind the index, of a growth that was killed, go.
 fn is_trimmed(beside: &File, size: u64) -> bool {
-    if !files::reaches(beside, files::sum(size, 1)) {
-        return true;
-    }
-    files::cut(beside, size)
+    !files::reaches(beside, files::sum(size, 1)) || files::cut(beside, size)
 }
 
 // Grows the index with this line 0.
-pub fn from(rt: &HostRuntime, recording: &File, beside: &File, setup: Setup, top: Top) {
+pub fn from(console: Console<'_>, recording: &File, beside: &File, setup: Setup, top: Top) {
     if !is_trimmed(beside, top.size) {
-        console::say(rt, b"c7index", b"cannot write the index\n");
+        console.say("cannot write the index");
         return;
     }
     let mut room = [0u8; 32768];
-    let Opened::Ready(receiver) = receiver::open(setup.tp, setup.stream, &room) else {
-        console::stop(rt, b"c7index", 0, Fault::Limits);
+    let Some(receiver) = receiver::open(setup.tp, setup.stream, &room) else {
+        console.stop(0, Fault::Limits);
         return;
     };
-    let mut block = [0u8; 131072];
+    let mut block = [0u8; SIZE];
     let mut out = [0u8; 65536];
-    let walk = index_loop::start(receiver, first_record(top), first_byte(top));
+    let (record, byte) = first_of(top);
+    let walk = index_loop::start(receiver, record, byte);
     onward(
-        rt, recording, beside, top, walk, &mut block, &mut room, &mut out,
+        console, recording, beside, top, walk, &mut block, &mut room, &mut out,
     );
 }

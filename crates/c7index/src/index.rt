@@ -1,23 +1,13 @@
 // The index's file: opened and judged, or made.
-use files::Got;
-use line_zero::{Reads, Top};
+use line_zero::Top;
 use std::fs::File;
 use std::io::ErrorKind;
-use std::os::unix::fs::FileExt;
 use std::{fs, io};
 
 const SIZE: usize = 133;
 
-// What is there: something that is told and not touched; nothing, or less than line 0; an index.
-#[derive(Drop)]
-pub enum Opened {
-    Refused,
-    Missing,
-    Ready(File, Top),
-}
-
 // Line 0 of an index over the setup alone.
-pub fn empty() -> Top {
+fn empty() -> Top {
     Top {
         covered: 1,
         since: 0,
@@ -27,38 +17,27 @@ pub fn empty() -> Top {
     }
 }
 
-fn say(rt: &HostRuntime, what: &[u8]) -> Opened {
-    console::say(rt, b"c7index", what);
-    Opened::Refused
-}
-
-// 23: the index covers more records than the recording has.
-fn judge(rt: &HostRuntime, recording: &File, beside: File, top: Top) -> Opened {
-    if top.size < 133 {
-        return say(rt, b"not an index\n");
-    }
-    if !files::reaches(&beside, top.size) {
-        return say(rt, b"not an index\n");
+// Says what is wrong with a line 0. 23: the index covers more records than the recording has.
+fn judge(recording: &File, beside: &File, top: Top) -> Result<(), &'static str> {
+    if top.size < 133 || !files::reaches(beside, top.size) {
+        return Err("not an index");
     }
     if !files::reaches(recording, top.end) {
-        return say(rt, b"refused 23\n");
+        return Err("refused 23");
     }
-    Opened::Ready(beside, top)
+    Ok(())
 }
 
 // A file of fewer bytes than line 0 has is as good as none.
-fn read_top(rt: &HostRuntime, recording: &File, beside: File) -> Opened {
+fn read_top(recording: &File, beside: File) -> Result<Option<(File, Top)>, &'static str> {
     let mut text = [0u8; SIZE];
-    let Got::Bytes(n) = files::read_at(&beside, 0, &mut text) else {
-        return say(rt, b"cannot read the index\n");
-    };
+    let n = files::read_at(&beside, 0, &mut text).ok_or("cannot read the index")?;
     if n < SIZE {
-        return Opened::Missing;
+        return Ok(None);
     }
-    match line_zero::read_top(&text) {
-        Reads::NoIndex => say(rt, b"not an index\n"),
-        Reads::Says(top) => judge(rt, recording, beside, top),
-    }
+    let top = line_zero::read_top(&text).ok_or("not an index")?;
+    judge(recording, &beside, top)?;
+    Ok(Some((beside, top)))
 }
 
 // For reading and writing, where it is there.
@@ -66,19 +45,19 @@ fn open_update(rt: &HostRuntime, name: &str) -> io::Result<File> {
     File::options().read(true).write(true).open(rt, name)
 }
 
-// Looks at what is at this path.
-pub fn open(rt: &HostRuntime, recording: &File, path: &[u8]) -> Opened {
+// Looks at what is at this path: an index, with its line 0; nothing, or less than line 0; or something that is not touched, and why.
+pub fn open(
+    rt: &HostRuntime,
+    recording: &File,
+    path: &[u8],
+) -> Result<Option<(File, Top)>, &'static str> {
     let Ok(name) = str::from_utf8(path) else {
-        return say(rt, b"cannot open the index\n");
+        return Err("cannot open the index");
     };
     match open_update(rt, name) {
-        Ok(beside) => read_top(rt, recording, beside),
-        Err(e) => {
-            if e.kind() == ErrorKind::NotFound {
-                return Opened::Missing;
-            }
-            say(rt, b"cannot open the index\n")
-        }
+        Ok(beside) => read_top(recording, beside),
+        Err(e) if e.kind() == ErrorKind::NotFound => Ok(None),
+        Err(_) => Err("cannot open the index"),
     }
 }
 
@@ -86,13 +65,7 @@ pub fn open(rt: &HostRuntime, recording: &File, path: &[u8]) -> Opened {
 pub fn write_top(beside: &File, top: Top) -> bool {
     let mut text = [0u8; SIZE];
     line_zero::put_top(top, &mut text, 0);
-    let Ok(n) = beside.write_at(&text, 0) else {
-        return false;
-    };
-    if n != 133 {
-        return false;
-    }
-    beside.sync_data().is_ok()
+    files::write_at(beside, 0, &text) && beside.sync_data().is_ok()
 }
 
 // The empty index, in a file that is made or emptied.
@@ -100,11 +73,11 @@ fn is_begun(rt: &HostRuntime, name: &str) -> bool {
     let Ok(beside) = File::create(rt, name) else {
         return false;
     };
-    if write_top(&beside, empty()) {
-        return true;
+    let is_written = write_top(&beside, empty());
+    if !is_written {
+        let _ = fs::remove_file(rt, name);
     }
-    let _ = fs::remove_file(rt, name);
-    false
+    is_written
 }
 
 // Makes the empty index under another name, which it then changes: no other bytes ever stand at this path.
@@ -121,15 +94,11 @@ fn make_as(rt: &HostRuntime, path: &[u8], name: &[u8]) -> Option<File> {
     open_update(rt, path).ok()
 }
 
-// Makes the empty index, and answers its file; where it cannot, it is told.
-pub fn make(rt: &HostRuntime, path: &[u8]) -> Option<File> {
+// Makes the empty index, if it can.
+pub fn make(rt: &HostRuntime, path: &[u8]) -> Option<(File, Top)> {
     let mut name = [0u8; 4096];
     let mut n = block::put(&mut name, 0, path);
     n = block::put(&mut name, n, b".new");
-    n = queue::least(n, 4096);
-    let beside = make_as(rt, path, &name[0..n]);
-    if beside.is_none() {
-        console::say(rt, b"c7index", b"cannot make the index\n");
-    }
-    beside
+    let beside = make_as(rt, path, name.get(..n)?)?;
+    Some((beside, empty()))
 }

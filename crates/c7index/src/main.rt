@@ -5,49 +5,47 @@
 mod grow;
 mod index;
 
-use files::{Begun, Got};
-use index::Opened;
+use console::Console;
 use std::fs::File;
 
 // Both files are open or can be made.
-fn between(rt: &HostRuntime, recording: &File, path: &[u8]) {
+fn between(console: Console<'_>, recording: &File, path: &[u8]) {
     let mut head = [0u8; 13];
-    let Got::Bytes(got) = files::read_at(recording, 0, &mut head) else {
-        console::say(rt, b"c7index", b"cannot read the recording\n");
+    let Some(n) = files::read_at(recording, 0, &mut head) else {
+        console.say("cannot read the recording");
         return;
     };
-    let n = queue::least(got, 13);
-    match index::open(rt, recording, path) {
-        Opened::Refused => {}
-        Opened::Missing => {
-            let Begun::Ready(setup) = files::setup_in(rt, b"c7index", &head[0..n]) else {
-                return;
-            };
-            if let Some(beside) = index::make(rt, path) {
-                grow::from(rt, recording, &beside, setup, index::empty());
-            }
+    let there = match index::open(console.rt, recording, path) {
+        Ok(there) => there,
+        Err(why) => {
+            console.say(why);
+            return;
         }
-        Opened::Ready(beside, top) => {
-            let Begun::Ready(setup) = files::setup_in(rt, b"c7index", &head[0..n]) else {
-                return;
-            };
-            grow::from(rt, recording, &beside, setup, top);
-        }
-    }
+    };
+    let Some(setup) = files::setup_in(console, &head[..n]) else {
+        return;
+    };
+    let Some((beside, top)) = there.or_else(|| index::make(console.rt, path)) else {
+        console.say("cannot make the index");
+        return;
+    };
+    grow::from(console, recording, &beside, setup, top);
 }
 
 fn main(rt: HostRuntime) {
+    let console = Console {
+        rt: &rt,
+        program: "c7index",
+    };
     if !files::has_words(&rt, 2) {
-        console::say(&rt, b"c7index", b"asks for a recording and an index\n");
+        console.say("asks for a recording and an index");
         return;
     }
     let mut path = [0u8; 4096];
-    let n = files::put_word(&rt, 1, &mut path);
-    let Some(recording) = files::open(&rt, &path[..n]) else {
-        console::say(&rt, b"c7index", b"cannot open the recording\n");
+    let Some(recording) = files::open(&rt, files::word(&rt, 1, &mut path)) else {
+        console.say("cannot open the recording");
         return;
     };
     let mut beside = [0u8; 4096];
-    let m = files::put_word(&rt, 2, &mut beside);
-    between(&rt, &recording, &beside[..m]);
+    between(console, &recording, files::word(&rt, 2, &mut beside));
 }

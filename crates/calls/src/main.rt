@@ -2,17 +2,17 @@
 // Makes calls on one sender and one receiver, as a list on standard input tells, and prints a line for each: second/CALLS.md.
 #![tactic(auto)]
 
-ghost use Rattle.std.specs.Prelude.{length, ◌≤◌, ◌<◌};
-ghost use Rattle.calls.specs.Running.{Fine, Goes};
+ghost use Rattle.std.specs.Prelude.{◌≤◌, IfSome};
+ghost use Rattle.calls.specs.Running.{Fine};
 
 mod digest;
 mod receiving;
 mod sending;
 mod text;
 
-use queue::least;
-use receiver::{Opened, Receiver};
-use sender::{Answer, Sender};
+use console::Console;
+use receiver::Receiver;
+use sender::Sender;
 use text::freed;
 
 // No list has so many entries: the loop ends for this.
@@ -39,13 +39,6 @@ pub struct Entry {
     pub n: usize,
 }
 
-// The list is over, with so many bytes held; or the state after a call.
-#[derive(Clone, Copy)]
-pub enum Next {
-    Stop(usize),
-    Go(State),
-}
-
 // The number of four bytes at a place of an entry's head.
 fn number_at(h: &[u8; 25], at: usize) -> usize
     requires { at ≤ 21 }
@@ -65,23 +58,9 @@ fn entry_of(h: &[u8; 25]) -> Entry {
     }
 }
 
-fn with_limit(s: State, limit: usize) -> State
-    requires { Fine s }
-    ensures { Fine result }
-{
-    let sender = s.sender;
-    let receiver = s.receiver;
-    State {
-        sender,
-        receiver,
-        limit,
-        at: s.at,
-    }
-}
-
 // The calls on the sender; d and e bytes of the queues are lent.
 fn to_sender(
-    rt: &HostRuntime,
+    console: Console<'_>,
     s: State,
     entry: Entry,
     sp: &[u8],
@@ -93,36 +72,35 @@ fn to_sender(
     requires { Fine s }
     ensures { Fine result }
 {
-    let d = least(entry.d, ordinary.len());
-    let e = least(entry.e, low.len());
+    let d = entry.d.min(ordinary.len());
+    let e = entry.e.min(low.len());
     let content = (entry.a % 256) as u8;
-    let op = entry.op;
-    match op {
+    match entry.op {
         1 => {
             let stream = (entry.b % 256) as u8;
             sending::open(
-                rt,
+                console,
                 s,
                 entry.a,
                 stream,
                 entry.c,
-                &low[0..e],
-                &ordinary[0..d],
+                &low[..e],
+                &ordinary[..d],
                 out,
             )
         }
-        2 => sending::offer_ordinary(rt, s, content, sp, &low[0..e], &mut ordinary[0..d], out),
-        3 => sending::offer_low(rt, s, content, sp, &mut low[0..e], &ordinary[0..d], out),
+        2 => sending::offer_ordinary(console, s, content, sp, &low[..e], &mut ordinary[..d], out),
+        3 => sending::offer_low(console, s, content, sp, &mut low[..e], &ordinary[..d], out),
         _ => {
-            let a = least(entry.a, drawn.len());
-            sending::draw(rt, s, &low[0..e], &ordinary[0..d], &mut drawn[0..a], out)
+            let a = entry.a.min(drawn.len());
+            sending::draw(console, s, &low[..e], &ordinary[..d], &mut drawn[..a], out)
         }
     }
 }
 
 // The calls on the receiver; a bytes of the TP and c of the room are lent.
 fn to_receiver(
-    rt: &HostRuntime,
+    console: Console<'_>,
     s: State,
     entry: Entry,
     received: &[u8],
@@ -132,37 +110,35 @@ fn to_receiver(
     requires { Fine s }
     ensures { Fine result }
 {
-    let a = least(entry.a, received.len());
-    let c = least(entry.c, room.len());
-    let op = entry.op;
-    match op {
+    let a = entry.a.min(received.len());
+    let c = entry.c.min(room.len());
+    match entry.op {
         5 => {
             let stream = (entry.b % 256) as u8;
-            receiving::open(rt, s, entry.a, stream, &room[0..c], out)
+            receiving::open(console, s, entry.a, stream, &room[..c], out)
         }
-        7 => receiving::gap(rt, s, out),
-        11 => receiving::all(rt, s, &received[0..a], false, &mut room[0..c], out),
-        13 => receiving::all(rt, s, &received[0..a], true, &mut room[0..c], out),
-        _ => {
-            let asked = receiving::next(rt, s, &received[0..a], op == 12, &mut room[0..c], out);
-            let state = asked.state;
-            state
-        }
+        7 => receiving::gap(console, s, out),
+        // 11 and 13: all that the TP gives; 12 and 13: what a find carries
+        op => receiving::next(
+            console,
+            s,
+            &received[..a],
+            op == 11 || op == 13,
+            op == 12 || op == 13,
+            &mut room[..c],
+            out,
+        ),
     }
 }
 
 // A line with only its name.
-fn named(rt: &HostRuntime, s: State, out: &mut [u8], line: &[u8]) -> State
+fn named(console: Console<'_>, s: State, out: &mut [u8], line: &[u8]) -> State
     requires { Fine s }
     ensures { Fine result }
 {
-    let sender = s.sender;
-    let receiver = s.receiver;
     State {
-        sender,
-        receiver,
-        limit: s.limit,
-        at: block::put(out, freed(rt, out, s.at), line),
+        at: block::put(out, freed(console, out, s.at), line),
+        ..s
     }
 }
 
@@ -175,8 +151,7 @@ fn write_to(
     drawn: &mut [u8],
     received: &mut [u8],
 ) {
-    let a = entry.a;
-    match a {
+    match entry.a {
         0 => queue::copy_at(ordinary, entry.b, sp),
         1 => queue::copy_at(low, entry.b, sp),
         2 => queue::copy_at(room, entry.b, sp),
@@ -187,7 +162,7 @@ fn write_to(
 }
 
 fn call(
-    rt: &HostRuntime,
+    console: Console<'_>,
     s: State,
     entry: Entry,
     sp: &[u8],
@@ -201,27 +176,32 @@ fn call(
     requires { Fine s }
     ensures { Fine result }
 {
-    let op = entry.op;
-    if op < 5 {
-        return to_sender(rt, s, entry, sp, ordinary, low, drawn, out);
+    if entry.op < 5 {
+        return to_sender(console, s, entry, sp, ordinary, low, drawn, out);
     }
-    match op {
+    match entry.op {
         8 => {
             write_to(entry, sp, ordinary, low, room, drawn, received);
-            named(rt, s, out, b"write\n")
+            named(console, s, out, b"write\n")
         }
         9 => {
             queue::copy_at(received, 0, drawn);
-            named(rt, s, out, b"hand\n")
+            named(console, s, out, b"hand\n")
         }
-        10 => named(rt, with_limit(s, entry.a), out, b"limit\n"),
-        _ => to_receiver(rt, s, entry, received, room, out),
+        10 => {
+            let limited = State {
+                limit: entry.a,
+                ..s
+            };
+            named(console, limited, out, b"limit\n")
+        }
+        _ => to_receiver(console, s, entry, received, room, out),
     }
 }
 
 // One entry of the list; one that is cut short, or that the list cannot have, ends it.
 fn turn(
-    rt: &HostRuntime,
+    console: Console<'_>,
     s: State,
     ordinary: &mut [u8],
     low: &mut [u8],
@@ -230,33 +210,27 @@ fn turn(
     received: &mut [u8],
     buf: &mut [u8],
     out: &mut [u8],
-) -> Next
+) -> Option<State>
     requires { Fine s }
-    ensures { Goes result }
+    ensures { IfSome result Fine }
 {
     let mut head = [0u8; 25];
-    if streams::read_full(rt, &mut head) < 25 {
-        return Next::Stop(s.at);
+    if streams::read_full(console.rt, &mut head) < 25 {
+        return None;
     }
     let entry = entry_of(&head);
     let n = entry.n;
-    if entry.op < 1 {
-        return Next::Stop(s.at);
+    if entry.op < 1 || 13 < entry.op || buf.len() < n {
+        return None;
     }
-    if 13 < entry.op {
-        return Next::Stop(s.at);
+    if streams::read_full(console.rt, &mut buf[..n]) < n {
+        return None;
     }
-    if buf.len() < n {
-        return Next::Stop(s.at);
-    }
-    if streams::read_full(rt, &mut buf[0..n]) < n {
-        return Next::Stop(s.at);
-    }
-    Next::Go(call(
-        rt,
+    Some(call(
+        console,
         s,
         entry,
-        &buf[0..n],
+        &buf[..n],
         ordinary,
         low,
         room,
@@ -266,12 +240,8 @@ fn turn(
     ))
 }
 
-fn finish(rt: &HostRuntime, out: &[u8], at: usize) {
-    console::flush(rt, b"calls", out, at);
-}
-
 fn turns(
-    rt: &HostRuntime,
+    console: Console<'_>,
     first: State,
     ordinary: &mut [u8],
     low: &mut [u8],
@@ -284,16 +254,13 @@ fn turns(
     requires { Fine first }
 {
     let mut s = first;
-    let mut left = LAST;
-    while left > 0 {
-        match turn(rt, s, ordinary, low, room, drawn, received, buf, out) {
-            Next::Stop(at) => {
-                finish(rt, out, at);
-                return;
-            }
-            Next::Go(next) => s = next,
-        }
-        left -= 1;
+    for _ in 0..LAST {
+        let at = s.at;
+        let Some(next) = turn(console, s, ordinary, low, room, drawn, received, buf, out) else {
+            console.flush(out, at);
+            return;
+        };
+        s = next;
     }
 }
 
@@ -301,10 +268,10 @@ fn main(rt: HostRuntime) {
     let mut ordinary = [0u8; 1048580];
     let mut low = [0u8; 1048580];
     let mut room = [0u8; 131080];
-    let Answer::Done(sender) = sender::open(16, 0, 1, &low[0..0], &ordinary[0..0]) else {
+    let Ok(sender) = sender::open(16, 0, 1, &[], &[]) else {
         return;
     };
-    let Opened::Ready(receiver) = receiver::open(16, 0, &room[0..0]) else {
+    let Some(receiver) = receiver::open(16, 0, &[]) else {
         return;
     };
     let mut drawn = [0u8; 4096];
@@ -317,8 +284,12 @@ fn main(rt: HostRuntime) {
         limit: 4294967295,
         at: 0,
     };
+    let console = Console {
+        rt: &rt,
+        program: "calls",
+    };
     turns(
-        &rt,
+        console,
         s,
         &mut ordinary,
         &mut low,

@@ -1,64 +1,54 @@
 // The calls on the receiver. Each takes the TP and the room as they are lent.
-ghost use Rattle.receiver.specs.State.{Able};
 ghost use Rattle.calls.specs.Running.{Fine};
 
 use crate::State;
 use crate::text::{freed, put_digest, put_find};
-use receiver::{About, Find, Opened, Receiver, Step};
+use console::Console;
+use receiver::{About, Find, Step};
 
 // No TP gives so much: the loop ends for this.
 const LAST: u64 = 0x8000000000000000;
 
-// What a call leaves, and whether the TP has more to give.
-#[derive(Clone, Copy)]
-pub struct Asked {
-    pub state: State,
-    pub goes_on: bool,
-}
-
-fn with_receiver(s: State, receiver: Receiver, at: usize) -> State
-    requires fine { Fine s }
-    requires able { Able receiver }
-    ensures { Fine result }
-{
-    let sender = s.sender;
-    State {
-        sender,
-        receiver,
-        limit: s.limit,
-        at,
-    }
-}
-
 fn put_opening(
-    rt: &HostRuntime,
+    console: Console<'_>,
     out: &mut [u8],
     at: usize,
     number: u64,
     room: &[u8],
     limit: usize,
 ) -> usize {
-    let mut next = block::put(out, freed(rt, out, at), b"receiver ");
+    let mut next = block::put(out, freed(console, out, at), b"receiver ");
     next = block::put_number(out, next, number);
     next = put_digest(out, next, room, limit);
     block::put(out, next, b"\n")
 }
 
-pub fn open(rt: &HostRuntime, s: State, tp: usize, stream: u8, room: &[u8], out: &mut [u8]) -> State
+pub fn open(
+    console: Console<'_>,
+    s: State,
+    tp: usize,
+    stream: u8,
+    room: &[u8],
+    out: &mut [u8],
+) -> State
     requires { Fine s }
     ensures { Fine result }
 {
-    let Opened::Ready(r) = receiver::open(tp, stream, room) else {
-        let receiver = s.receiver;
-        let at = put_opening(rt, out, s.at, 1, room, s.limit);
-        return with_receiver(s, receiver, at);
-    };
-    let at = put_opening(rt, out, s.at, 0, room, s.limit);
-    with_receiver(s, r, at)
+    match receiver::open(tp, stream, room) {
+        None => State {
+            at: put_opening(console, out, s.at, 1, room, s.limit),
+            ..s
+        },
+        Some(receiver) => State {
+            receiver,
+            at: put_opening(console, out, s.at, 0, room, s.limit),
+            ..s
+        },
+    }
 }
 
 fn put_next<'a>(
-    rt: &HostRuntime,
+    console: Console<'_>,
     out: &mut [u8],
     at: usize,
     find: Find,
@@ -66,7 +56,7 @@ fn put_next<'a>(
     room: &'a [u8],
     limit: usize,
 ) -> usize {
-    let mut next = block::put(out, freed(rt, out, at), b"next ");
+    let mut next = block::put(out, freed(console, out, at), b"next ");
     next = put_find(out, next, find, receiver::found(tp, room, find));
     next = put_digest(out, next, tp, tp.len());
     next = put_digest(out, next, room, limit);
@@ -74,9 +64,9 @@ fn put_next<'a>(
 }
 
 // What a find carries: the TP number and the place at which it began, and the total repaired.
-fn put_about(rt: &HostRuntime, out: &mut [u8], at: usize, about: About) -> usize {
+fn put_about(console: Console<'_>, out: &mut [u8], at: usize, about: About) -> usize {
     let place = about.at;
-    let mut next = block::put(out, freed(rt, out, at), b"about ");
+    let mut next = block::put(out, freed(console, out, at), b"about ");
     next = block::put_number(out, next, place.stamp.number);
     next = block::put(out, next, b" ");
     next = block::put_number(out, next, place.at as u64);
@@ -87,7 +77,7 @@ fn put_about(rt: &HostRuntime, out: &mut [u8], at: usize, about: About) -> usize
 
 // The line of a find, and if more is to be told what it carries.
 fn put_step<'a>(
-    rt: &HostRuntime,
+    console: Console<'_>,
     out: &mut [u8],
     at: usize,
     step: Step,
@@ -96,41 +86,19 @@ fn put_step<'a>(
     room: &'a [u8],
     limit: usize,
 ) -> usize {
-    let find = step.find;
-    let about = step.about;
-    let next = put_next(rt, out, at, find, tp, room, limit);
+    let next = put_next(console, out, at, step.find, tp, room, limit);
     if more {
-        return put_about(rt, out, next, about);
+        return put_about(console, out, next, step.about);
     }
     next
 }
 
+// One call, or with `all` each that the TP has.
 pub fn next(
-    rt: &HostRuntime,
-    s: State,
-    tp: &[u8],
-    more: bool,
-    room: &mut [u8],
-    out: &mut [u8],
-) -> Asked
-    requires { Fine s }
-    ensures { Fine result.state }
-{
-    let before = s.receiver;
-    let step = receiver::next(before, tp, room);
-    let find = step.find;
-    let receiver = step.receiver;
-    let at = put_step(rt, out, s.at, step, more, tp, room, s.limit);
-    Asked {
-        state: with_receiver(s, receiver, at),
-        goes_on: receiver::lasts(find),
-    }
-}
-
-pub fn all(
-    rt: &HostRuntime,
+    console: Console<'_>,
     first: State,
     tp: &[u8],
+    all: bool,
     more: bool,
     room: &mut [u8],
     out: &mut [u8],
@@ -139,23 +107,27 @@ pub fn all(
     ensures { Fine result }
 {
     let mut s = first;
-    let mut left = LAST;
-    while left > 0 {
-        let asked = next(rt, s, tp, more, room, out);
-        s = asked.state;
-        if !asked.goes_on {
-            return s;
+    for _ in 0..LAST {
+        let step = receiver::next(s.receiver, tp, room);
+        s = State {
+            receiver: step.receiver,
+            at: put_step(console, out, s.at, step, more, tp, room, s.limit),
+            ..s
+        };
+        if !all || !receiver::lasts(step.find) {
+            break;
         }
-        left -= 1;
     }
     s
 }
 
-pub fn gap(rt: &HostRuntime, s: State, out: &mut [u8]) -> State
+pub fn gap(console: Console<'_>, s: State, out: &mut [u8]) -> State
     requires { Fine s }
     ensures { Fine result }
 {
-    let before = s.receiver;
-    let at = block::put(out, freed(rt, out, s.at), b"gap\n");
-    with_receiver(s, receiver::gap(before), at)
+    State {
+        receiver: receiver::gap(s.receiver),
+        at: block::put(out, freed(console, out, s.at), b"gap\n"),
+        ..s
+    }
 }

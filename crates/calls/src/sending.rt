@@ -3,80 +3,56 @@ ghost use Rattle.sender.specs.Opening.{Sound, SoundAnswer};
 ghost use Rattle.calls.specs.Running.{Fine};
 
 use crate::State;
-use crate::text::{freed, number_of, put_digest, put_queues};
-use sender::{Answer, Sender};
-
-fn with_sender(s: State, sender: Sender, at: usize) -> State
-    requires fine { Fine s }
-    requires sound { Sound sender }
-    ensures { Fine result }
-{
-    let receiver = s.receiver;
-    State {
-        sender,
-        receiver,
-        limit: s.limit,
-        at,
-    }
-}
-
-// 0 if the call was done, else the number given back.
-fn put_answer(out: &mut [u8], at: usize, a: Answer) -> usize {
-    match a {
-        Answer::Done(_) => block::put_number(out, at, 0),
-        Answer::Refused(k) => block::put_number(out, at, number_of(k)),
-    }
-}
+use crate::text::{freed, put_digest, put_queues};
+use console::Console;
+use sender::{Refusal, Sender};
 
 // A line of a call that writes no TP.
 fn put_line(
-    rt: &HostRuntime,
+    console: Console<'_>,
     out: &mut [u8],
     at: usize,
     name: &[u8],
-    a: Answer,
+    number: u8,
     low: &[u8],
     ordinary: &[u8],
     limit: usize,
 ) -> usize {
-    let mut next = block::put(out, freed(rt, out, at), name);
-    next = put_answer(out, next, a);
+    let mut next = block::put(out, freed(console, out, at), name);
+    next = block::put_number(out, next, number as u64);
     put_queues(out, next, ordinary, low, limit)
 }
 
 fn put_draw(
-    rt: &HostRuntime,
+    console: Console<'_>,
     out: &mut [u8],
     at: usize,
-    a: Answer,
+    number: u8,
     tp: &[u8],
     low: &[u8],
     ordinary: &[u8],
     limit: usize,
 ) -> usize {
-    let mut next = block::put(out, freed(rt, out, at), b"draw ");
-    next = put_answer(out, next, a);
+    let mut next = block::put(out, freed(console, out, at), b"draw ");
+    next = block::put_number(out, next, number as u64);
     next = put_digest(out, next, tp, tp.len());
     put_queues(out, next, ordinary, low, limit)
 }
 
-// The sender after a call; a refusal leaves the earlier one.
-fn after(s: State, a: Answer, at: usize) -> State
-    requires fine { Fine s }
+// The sender after a call, and 0; a refusal leaves the earlier one, and gives its number.
+fn after(earlier: Sender, a: Result<Sender, Refusal>) -> (Sender, u8)
+    requires earlier_sound { Sound earlier }
     requires sound_answer { SoundAnswer a }
-    ensures { Fine result }
+    ensures { Sound result.0 }
 {
     match a {
-        Answer::Done(t) => with_sender(s, t, at),
-        Answer::Refused(_) => {
-            let sender = s.sender;
-            with_sender(s, sender, at)
-        }
+        Ok(sender) => (sender, 0),
+        Err(k) => (earlier, u8::from(k)),
     }
 }
 
 pub fn open(
-    rt: &HostRuntime,
+    console: Console<'_>,
     s: State,
     tp: usize,
     stream: u8,
@@ -88,13 +64,25 @@ pub fn open(
     requires { Fine s }
     ensures { Fine result }
 {
+    let State {
+        sender,
+        receiver,
+        limit,
+        at,
+    } = s;
     let a = sender::open(tp, stream, piece, low, ordinary);
-    let at = put_line(rt, out, s.at, b"sender ", a, low, ordinary, s.limit);
-    after(s, a, at)
+    let (sender, number) = after(sender, a);
+    let at = put_line(console, out, at, b"sender ", number, low, ordinary, limit);
+    State {
+        sender,
+        receiver,
+        limit,
+        at,
+    }
 }
 
 pub fn offer_ordinary(
-    rt: &HostRuntime,
+    console: Console<'_>,
     s: State,
     content: u8,
     sp: &[u8],
@@ -105,14 +93,25 @@ pub fn offer_ordinary(
     requires { Fine s }
     ensures { Fine result }
 {
-    let sender = s.sender;
+    let State {
+        sender,
+        receiver,
+        limit,
+        at,
+    } = s;
     let a = sender::offer_ordinary(sender, low, ordinary, content, sp);
-    let at = put_line(rt, out, s.at, b"ordinary ", a, low, ordinary, s.limit);
-    after(s, a, at)
+    let (sender, number) = after(sender, a);
+    let at = put_line(console, out, at, b"ordinary ", number, low, ordinary, limit);
+    State {
+        sender,
+        receiver,
+        limit,
+        at,
+    }
 }
 
 pub fn offer_low(
-    rt: &HostRuntime,
+    console: Console<'_>,
     s: State,
     content: u8,
     sp: &[u8],
@@ -123,14 +122,25 @@ pub fn offer_low(
     requires { Fine s }
     ensures { Fine result }
 {
-    let sender = s.sender;
+    let State {
+        sender,
+        receiver,
+        limit,
+        at,
+    } = s;
     let a = sender::offer_low(sender, low, ordinary, content, sp);
-    let at = put_line(rt, out, s.at, b"low ", a, low, ordinary, s.limit);
-    after(s, a, at)
+    let (sender, number) = after(sender, a);
+    let at = put_line(console, out, at, b"low ", number, low, ordinary, limit);
+    State {
+        sender,
+        receiver,
+        limit,
+        at,
+    }
 }
 
 pub fn draw(
-    rt: &HostRuntime,
+    console: Console<'_>,
     s: State,
     low: &[u8],
     ordinary: &[u8],
@@ -140,8 +150,19 @@ pub fn draw(
     requires { Fine s }
     ensures { Fine result }
 {
-    let sender = s.sender;
+    let State {
+        sender,
+        receiver,
+        limit,
+        at,
+    } = s;
     let a = sender::draw(sender, low, ordinary, tp);
-    let at = put_draw(rt, out, s.at, a, tp, low, ordinary, s.limit);
-    after(s, a, at)
+    let (sender, number) = after(sender, a);
+    let at = put_draw(console, out, at, number, tp, low, ordinary, limit);
+    State {
+        sender,
+        receiver,
+        limit,
+        at,
+    }
 }

@@ -1,28 +1,16 @@
 // What the lines are made of.
 use crate::digest::digest;
-use queue::least;
+use console::Console;
 use receiver::Find;
-use sender::Refusal;
 
 // The block is written out when so much is held; a line more always has room.
 const FULL: usize = 61440;
 
 // A space and the digest of a buffer's first bytes.
 pub fn put_digest(out: &mut [u8], at: usize, s: &[u8], most: usize) -> usize {
-    let n = least(most, s.len());
+    let n = most.min(s.len());
     let next = block::put(out, at, b" ");
-    block::put_number(out, next, digest(&s[0..n]))
-}
-
-// The number of a call of the sender that was refused.
-pub fn number_of(k: Refusal) -> u64 {
-    match k {
-        Refusal::Limits => 1,
-        Refusal::Content => 2,
-        Refusal::Long => 3,
-        Refusal::Full => 4,
-        Refusal::Buffer => 5,
-    }
+    block::put_number(out, next, digest(&s[..n]))
 }
 
 // Both queues, and the line's end.
@@ -45,15 +33,11 @@ pub fn put_find(out: &mut [u8], at: usize, find: Find, stretch: &[u8]) -> usize 
         Find::Nothing => block::put(out, at, b"none"),
         Find::Refused => block::put(out, at, b"1"),
         Find::Notice(n) => block::put_number(out, at, n as u64),
-        Find::Low {
-            content,
-            start: _,
-            len: _,
-        } => {
+        Find::Low { content, .. } => {
             let next = block::put(out, at, b"low ");
             put_packet(out, next, content, stretch)
         }
-        Find::Ordinary { content, len: _ } => {
+        Find::Ordinary { content, .. } => {
             let next = block::put(out, at, b"ordinary ");
             put_packet(out, next, content, stretch)
         }
@@ -61,10 +45,10 @@ pub fn put_find(out: &mut [u8], at: usize, find: Find, stretch: &[u8]) -> usize 
 }
 
 // Room for a line.
-pub fn freed(rt: &HostRuntime, out: &[u8], at: usize) -> usize {
+pub fn freed(console: Console<'_>, out: &[u8], at: usize) -> usize {
     if at < FULL {
         return at;
     }
-    console::flush(rt, b"calls", out, at);
+    console.flush(out, at);
     0
 }

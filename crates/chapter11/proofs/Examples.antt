@@ -2,6 +2,7 @@
 use Rattle.std.proofs.Common.{◌≡◌, ℕ, List, [], ◌∷◌, refl}
 use Rattle.golay.specs.Golay.{chosen, code_word}
 use Rattle.wire.specs.Wire.{word}
+use Rattle.chapter11.specs.declared.Refusal.TheVariants.{Unfit}
 use Rattle.chapter11.specs.Packet.{sum_of, is_packet, header_for, rest, cut_fill}
 use Rattle.chapter11.specs.Source.{gives, refuses, protected, source_packet, composed_of}
 
@@ -17,7 +18,7 @@ unfolding composed_of is_packet sum_of source_packet protected header_for rest w
 plain_composed = refl
 
 -- a buffer of one byte less
-pub no_room : composed_of plain 25 ≡ refuses 17
+pub no_room : composed_of plain 25 ≡ refuses Unfit
 unfolding composed_of is_packet sum_of
 no_room = refl
 

@@ -1,8 +1,8 @@
 -- What is known of a packet: the facts behind its test, the bounds of its parts, and its numbers as bytes. Assumes nothing.
-use Rattle.std.proofs.Common.{◌≡◌, ℕ, suc, ◌+◌, ◌-◌, ◌*◌, ◌%◌, ◌^◌, ◌<◌, ◌≤◌, Bool, true, false, cond, ◌&&◌, eqb, leb, List, length, get_or, drop, sym, ap, ◌∙◌, add-one, arith, drop_of_length-le, drop-cons, eq-eqb, ne_eqb, eqb-true, le-leb, leb-true}
+use Rattle.std.proofs.Common.{◌≡◌, ℕ, ◌+◌, ◌-◌, ◌*◌, ◌%◌, ◌^◌, ◌<◌, ◌≤◌, Bool, true, false, cond, ◌&&◌, eqb, leb, List, length, ap, ◌∙◌, add-one, arith, eq-eqb, ne_eqb, eqb-true, le-leb, leb-true}
 use borrow.Author.Tests.{lt-leb}
 use Rattle.queue.proofs.Puts.{and_left, and_right}
-use Rattle.chapter11.specs.Packet.{two_at, sync, packet_length, checksum, sum_size_by, sum_size, sum_of, header_sum, data_end, together, is_packet, all_zero, new_length, cut_in}
+use Rattle.chapter11.specs.Packet.{two_at, sync, packet_length, checksum, sum_size_by, sum_size, sum_of, header_sum, data_end, together, is_packet, new_length, cut_in}
 use Rattle.chapter11.specs.declared.packet.Cut.{Cut}
 
 pub record Is (p : List ℕ) : Type 0 where
@@ -72,24 +72,11 @@ sum_size_most f = go (eqb (f % 4) 3)
     go true = omega arith
     go false = omega arith
 
--- ---- the loops
+-- ---- the loop of the sum
 
 pub next_sum : (h : List ℕ) (i s t r : ℕ) → s ≡ sum_of i h → t ≡ two_at h (2 * i) → r ≡ (s + t) % 2 ^ 16 → r ≡ sum_of (i + 1) h
 unfolding sum_of
 next_sum h i s t r es et er = er ∙ rw (es, et, add-one i)
-
-module _ (s : List ℕ) (i : ℕ) (within : i < length s) where
-  split : all_zero (drop i s) ≡ eqb (get_or s i 0) 0 && all_zero (drop (suc i) s)
-  split = ap all_zero (drop-cons s i 0 within)
-
-  pub not_zero : (get_or s i 0 ≡ 0 → ⊥) → all_zero (drop i s) ≡ all_zero s → false ≡ all_zero s
-  not_zero some e = sym (sym e ∙ split ∙ rw (ne_eqb (get_or s i 0) 0 some))
-
-  pub still_zero : get_or s i 0 ≡ 0 → all_zero (drop i s) ≡ all_zero s → all_zero (drop (i + 1) s) ≡ all_zero s
-  still_zero none e = rw (add-one i) (sym (split ∙ rw (eq-eqb (get_or s i 0) 0 none)) ∙ e)
-
-pub all_seen : (s : List ℕ) (i : ℕ) → length s ≤ i → all_zero (drop i s) ≡ all_zero s → true ≡ all_zero s
-all_seen s i h e = rw (drop_of_length-le s h) at e
 
 -- ---- what the code answers for a packet
 

@@ -1,87 +1,54 @@
 -- What the Golay words of a source packet say, and what is written behind them. Assumes nothing.
-use Rattle.std.proofs.Common.{◌≡◌, ℕ, ◌+◌, ◌-◌, ◌<◌, ◌≤◌, Bool, true, false, eqb, List, ◌++◌, length, take, drop, sym, refl, ap, ◌∙◌, append_assoc, append-nil, arith, length-append, length-drop, drop_of_length-le, length-take-le, take_all, eq-eqb, ne_eqb, eqb-true, le-leb}
-use mathlib.Core.Option.{Option, none, some}
+use Rattle.std.proofs.Common.{◌≡◌, ℕ, ◌+◌, ◌-◌, ◌<◌, ◌≤◌, Bool, true, false, eqb, List, [], ◌∷◌, ◌++◌, length, take, drop, sym, refl, ap, ◌∙◌, append_assoc, append-nil, arith, length-append, length-drop, drop_of_length-le, length-take-le, take_all, eq-eqb, ne_eqb, eqb-true, le-leb}
+use Rattle.std.specs.Prelude.{◌↔◌, IsTrue, All, Option, Some, None, Ok, Err}
 use borrow.Author.Tests.{eqb-false, lt-leb}
 use Rattle.block.specs.Block.{Block, placed, put}
 use Rattle.block.proofs.Laws.{fits, then, block_of, length_placed}
-use Rattle.golay.specs.declared.Decoded.{Decoded}
-use Rattle.golay.specs.declared.Decoded.TheVariants as G
+use Rattle.golay.specs.declared.Word.{Word}
 use Rattle.golay.specs.Answers.{Decodes}
 use Rattle.wire.specs.Reading.{number_of}
 use Rattle.wire.proofs.Answers.{number_is}
 use Rattle.wire.proofs.Laws.{word_length}
-use Rattle.chapter11.specs.declared.Answer.TheVariants.{Done, Refused}
+use Rattle.chapter11.specs.declared.Refusal.{Refusal}
+use Rattle.chapter11.specs.declared.Refusal.TheVariants.{Unfit, Fill}
 use Rattle.chapter11.specs.declared.Fields.{Fields}
-use Rattle.chapter11.specs.declared.Number.{Number}
-use Rattle.chapter11.specs.declared.Number.TheVariants as N
-use Rattle.chapter11.specs.declared.Read.TheVariants as R
 use Rattle.chapter11.specs.declared.packet.Cut.{Cut}
 use Rattle.chapter11.specs.Packet.{two, four, channel, data_length, header_sum, is_packet, cut, all_zero, new_length, cut_in, header_for, new_header, rest, cut_from, cut_till}
-use Rattle.chapter11.specs.Source.{Left, gives, left, trailer, fields_in, protected, source_packet, composed_of, word_at, number_at, said_of, fields_from, fields_of, read_of, packet_of, reassembled_of}
+use Rattle.chapter11.specs.Source.{Left, gives, left, trailer, fields_in, protected, source_packet, composed_of, word_at, number_at, fields_from, fields_of, packet_of, reassembled_of}
+use Rattle.std.proofs.lemmas.List.Elements.{All-nil, All-cons, All-head, All-tail}
+use Rattle.queue.proofs.Puts.{and_left, and_right}
 use Rattle.chapter11.proofs.Packets.{Is, is}
 
 -- ---- the words
 
-said_is : (sp : List ℕ) (i w : ℕ) (x : Decoded) → w ≡ word_at sp i → Decodes w x
-    → said_of (number_of x) ≡ said_of (number_at sp i)
+pub read_word : (sp : List ℕ) (i w : ℕ) (x : Option Word) → w ≡ word_at sp i → Decodes w x → number_of x ≡ number_at sp i
 unfolding number_at
-said_is sp i w x e d = ap said_of (sym (number_is w x d)) ∙ rw e
-
-pub said_word : (sp : List ℕ) (i w n c p : ℕ) (x : Decoded) → w ≡ word_at sp i → Decodes w x
-    → x ≡ G.Word n c p → N.Is n ≡ said_of (number_at sp i)
-said_word sp i w n c p x e d is = ap (λ (z : Decoded). said_of (number_of z)) (sym is) ∙ said_is sp i w x e d
-
-pub said_beyond : (sp : List ℕ) (i w : ℕ) (x : Decoded) → w ≡ word_at sp i → Decodes w x
-    → x ≡ G.Beyond → N.Beyond ≡ said_of (number_at sp i)
-said_beyond sp i w x e d is = ap (λ (z : Decoded). said_of (number_of z)) (sym is) ∙ said_is sp i w x e d
-
-said_some : (o : Option ℕ) (n : ℕ) → said_of o ≡ N.Is n → o ≡ some n
-said_some none n e = cc
-said_some (some m) n e = cc
-
-said_none : (o : Option ℕ) → said_of o ≡ N.Beyond → o ≡ none
-said_none none e = refl
-said_none (some m) e = cc
-
--- a word that is read, or beyond repair
-pub some_at : (sp : List ℕ) (i n : ℕ) (r : Number) → r ≡ said_of (number_at sp i) → r ≡ N.Is n → number_at sp i ≡ some n
-some_at sp i n r e is = said_some (number_at sp i) n (sym e ∙ is)
-
-pub none_at : (sp : List ℕ) (i : ℕ) (r : Number) → r ≡ said_of (number_at sp i) → r ≡ N.Beyond → number_at sp i ≡ none
-none_at sp i r e is = said_none (number_at sp i) (sym e ∙ is)
-
-pub read_some : (o : Option Fields) (f : Fields) → read_of o ≡ R.Whole f → o ≡ some f
-read_some none f e = cc
-read_some (some g) f e = cc
-
-pub read_none : (o : Option Fields) → read_of o ≡ R.Beyond → o ≡ none
-read_none none e = refl
-read_none (some g) e = cc
+read_word sp i w x e d = sym (number_is w x d) ∙ rw e
 
 -- the four words, read one after the other
 module _ (sp : List ℕ) where
-  pub beyond_first : number_at sp 0 ≡ none → R.Beyond ≡ read_of (fields_of sp)
+  pub beyond_first : None ≡ number_at sp 0 → None ≡ fields_of sp
   unfolding fields_of
-  beyond_first e = rw e
+  beyond_first e = rw (← e)
 
-  module _ (a : ℕ) (ea : number_at sp 0 ≡ some a) where
-    pub beyond_second : number_at sp 3 ≡ none → R.Beyond ≡ read_of (fields_of sp)
+  module _ (a : ℕ) (ea : Some a ≡ number_at sp 0) where
+    pub beyond_second : None ≡ number_at sp 3 → None ≡ fields_of sp
     unfolding fields_of
-    beyond_second e = rw (ea, e)
+    beyond_second e = rw (← ea, ← e)
 
-    module _ (b : ℕ) (eb : number_at sp 3 ≡ some b) where
-      pub beyond_third : number_at sp 6 ≡ none → R.Beyond ≡ read_of (fields_of sp)
+    module _ (b : ℕ) (eb : Some b ≡ number_at sp 3) where
+      pub beyond_third : None ≡ number_at sp 6 → None ≡ fields_of sp
       unfolding fields_of
-      beyond_third e = rw (ea, eb, e)
+      beyond_third e = rw (← ea, ← eb, ← e)
 
-      module _ (c : ℕ) (ec : number_at sp 6 ≡ some c) where
-        pub beyond_fourth : number_at sp 9 ≡ none → R.Beyond ≡ read_of (fields_of sp)
+      module _ (c : ℕ) (ec : Some c ≡ number_at sp 6) where
+        pub beyond_fourth : None ≡ number_at sp 9 → None ≡ fields_of sp
         unfolding fields_of
-        beyond_fourth e = rw (ea, eb, ec, e)
+        beyond_fourth e = rw (← ea, ← eb, ← ec, ← e)
 
-        pub whole : (d : ℕ) (f : Fields) → number_at sp 9 ≡ some d → some f ≡ fields_from (some a) (some b) (some c) (some d) → R.Whole f ≡ read_of (fields_of sp)
+        pub whole : (d : ℕ) (f : Fields) → Some d ≡ number_at sp 9 → Some f ≡ fields_from (Some a) (Some b) (Some c) (Some d) → Some f ≡ fields_of sp
         unfolding fields_of
-        whole d f ed e = ap read_of e ∙ rw (ea, eb, ec, ed)
+        whole d f ed e = e ∙ rw (← ea, ← eb, ← ec, ← ed)
 
 -- ---- the fields of a packet
 
@@ -94,10 +61,10 @@ fields_is p c n z ec ez en =
 -- ---- what is written
 
 -- what is put at the buffer's start is what the call leaves
-pub at_start : (d y s : List ℕ) (r : ℕ) → length s ≤ length d → block_of y r ≡ put d 0 s → ◌≡◌ {A = Left} (record { answer = Done r; buffer = y }) (left d (gives s))
+pub at_start : (d y s : List ℕ) (r : ℕ) → length s ≤ length d → block_of y r ≡ put d 0 s → ◌≡◌ {A = Left} (record { answer = Ok r; buffer = y }) (left d (gives s))
 at_start d y s r h e =
     let none : 0 + length s ≡ length s = omega arith in
-    ap (λ (k : Block). record { answer = Done k.at; buffer = k.bytes }) (e ∙ fits d 0 s (omega arith)) ∙ rw none
+    ap (λ (k : Block). record { answer = Ok k.at; buffer = k.bytes }) (e ∙ fits d 0 s (omega arith)) ∙ rw none
 
 -- from index n to the end
 to_end : (n : ℕ) (s : List ℕ) → take (length s - n) (drop n s) ≡ drop n s
@@ -202,16 +169,34 @@ packet_put f sp d a₁ a₂ a₃ a₄ y₁ y₂ y₃ y₄ y₅ r₁ r₂ r₃ r�
     let g₄ = then d y₃ y₄ (s₁ ++ s₂ ++ s₃) s₄ 0 r₃ r₄ (omega arith) g₃ (e₄ ∙ ap (put y₃ r₃) h₄) in
     then d y₄ y₅ (s₁ ++ s₂ ++ s₃ ++ s₄) (drop 12 sp) 0 r₄ r₅ (omega arith) g₄ (e₅ ∙ ap (put y₄ r₄) (to_end 12 sp))
 
+-- ---- fill that is zero
+
+zero_all : (s : List ℕ) → all_zero s ≡ true → All (λ b. b ≡ 0) s
+zero_all [] e = All-nil (λ b. b ≡ 0)
+zero_all (b ∷ bs) e = All-cons (λ x. x ≡ 0) b bs (eqb-true b 0 (and_left (eqb b 0) (all_zero bs) e)) (zero_all bs (and_right (eqb b 0) (all_zero bs) e))
+
+all_zero_of : (s : List ℕ) → All (λ b. b ≡ 0) s → all_zero s ≡ true
+all_zero_of [] h = refl
+all_zero_of (b ∷ bs) h = rw (eq-eqb b 0 (All-head (λ x. x ≡ 0) b bs h)) (all_zero_of bs (All-tail (λ x. x ≡ 0) b bs h))
+
+pub zero_is : (t : Bool) (s : List ℕ) → (IsTrue t ↔ All (λ b. b ≡ 0) s) → t ≡ all_zero s
+zero_is true s e = sym (all_zero_of s (e.0 refl))
+zero_is false s e = go (all_zero s) refl
+  where
+    go : (u : Bool) → all_zero s ≡ u → false ≡ all_zero s
+    go true h = e.1 (zero_all s h) ∙ sym h
+    go false h = sym h
+
 -- ---- what the two calls leave
 
-abbrev no : ℕ → List ℕ → Left
-no n d = record { answer = Refused n; buffer = d }
+abbrev no : Refusal → List ℕ → Left
+no k d = record { answer = Err k; buffer = d }
 
 abbrev yes : ℕ → List ℕ → Left
-yes r d = record { answer = Done r; buffer = d }
+yes r d = record { answer = Ok r; buffer = d }
 
 module _ (p d : List ℕ) where
-  pub not_packet : is_packet p ≡ false → no 17 d ≡ left d (composed_of p (length d))
+  pub not_packet : is_packet p ≡ false → no Unfit d ≡ left d (composed_of p (length d))
   unfolding composed_of
   not_packet e = rw e
 
@@ -219,7 +204,7 @@ module _ (p d : List ℕ) where
     cut_is : take (k.till - k.from) (drop k.from p) ≡ cut p
     cut_is = ap (λ (c : Cut). take (c.till - c.from) (drop c.from p)) ek
 
-    pub no_room : length d < k.left → no 17 d ≡ left d (composed_of p (length d))
+    pub no_room : length d < k.left → no Unfit d ≡ left d (composed_of p (length d))
     unfolding composed_of
     no_room h =
         let short : length d < new_length p = omega (arith, ap (λ (c : Cut). c.left) ek) in
@@ -229,7 +214,7 @@ module _ (p d : List ℕ) where
       fit : new_length p ≤ length d
       fit = omega (arith, ap (λ (c : Cut). c.left) ek)
 
-      pub not_fill : all_zero (take (k.till - k.from) (drop k.from p)) ≡ false → no 18 d ≡ left d (composed_of p (length d))
+      pub not_fill : all_zero (take (k.till - k.from) (drop k.from p)) ≡ false → no Fill d ≡ left d (composed_of p (length d))
       unfolding composed_of
       not_fill e = rw (good, le-leb (new_length p) (length d) fit, sym (ap all_zero cut_is) ∙ e)
 
@@ -249,27 +234,27 @@ agrees t s n long fits = go (eqb (24 + t + s) n) refl
     go false e = ne_eqb (n - 24 - t) s (λ same. eqb-false (24 + t + s) n e (omega arith))
 
 module _ (sp d : List ℕ) where
-  pub too_short : length sp < 24 → no 17 d ≡ left d (reassembled_of sp (length d))
+  pub too_short : length sp < 24 → no Unfit d ≡ left d (reassembled_of sp (length d))
   unfolding reassembled_of
   too_short h = rw (lt-leb 24 (length sp) h)
 
   module _ (long : 24 ≤ length sp) where
-    pub beyond : fields_of sp ≡ none → no 17 d ≡ left d (reassembled_of sp (length d))
+    pub beyond : fields_of sp ≡ None → no Unfit d ≡ left d (reassembled_of sp (length d))
     unfolding reassembled_of
     beyond e = rw (le-leb 24 (length sp) long, e)
 
-    module _ (f : Fields) (said : fields_of sp ≡ some f) where
-      pub other_size : eqb (24 + f.trailer + f.size) (length sp) ≡ false → no 17 d ≡ left d (reassembled_of sp (length d))
+    module _ (f : Fields) (said : Some f ≡ fields_of sp) where
+      pub other_size : eqb (24 + f.trailer + f.size) (length sp) ≡ false → no Unfit d ≡ left d (reassembled_of sp (length d))
       unfolding reassembled_of
-      other_size e = rw (le-leb 24 (length sp) long, said, e)
+      other_size e = rw (le-leb 24 (length sp) long, sym said, e)
 
       module _ (size : eqb (24 + f.trailer + f.size) (length sp) ≡ true) where
-        pub no_room_back : length d < length sp → no 17 d ≡ left d (reassembled_of sp (length d))
+        pub no_room_back : length d < length sp → no Unfit d ≡ left d (reassembled_of sp (length d))
         unfolding reassembled_of
-        no_room_back h = rw (le-leb 24 (length sp) long, said, size, lt-leb (length sp) (length d) h)
+        no_room_back h = rw (le-leb 24 (length sp) long, sym said, size, lt-leb (length sp) (length d) h)
 
         pub reassembled : (y : List ℕ) (r : ℕ) → length sp ≤ length d → block_of y r ≡ put d 0 (packet_of f sp) → yes r y ≡ left d (reassembled_of sp (length d))
         unfolding reassembled_of
         reassembled y r h w =
             at_start d y (packet_of f sp) r (omega (arith, packet_length_lem f sp (omega arith))) w
-            ∙ rw (le-leb 24 (length sp) long, said, size, le-leb (length sp) (length d) h)
+            ∙ rw (le-leb 24 (length sp) long, sym said, size, le-leb (length sp) (length d) h)

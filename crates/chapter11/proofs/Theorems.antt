@@ -1,7 +1,9 @@
 -- Reassembling what was composed gives the packet with its fill cut, also with up to three flips in each Golay word; and
 -- where less than four bytes of fill stand, that is the packet itself. Assumes nothing.
 use Rattle.std.proofs.Common.{◌≡◌, ℕ, zero, suc, ◌+◌, ◌-◌, ◌*◌, ◌/◌, ◌%◌, ◌<◌, ◌≤◌, Bool, true, false, cond, eqb, leb, List, [], ◌∷◌, ◌++◌, length, get_or, take, drop, sym, refl, ap, ◌∙◌, subst, ap₂, append_assoc, mod-eq_of_lt, lt_of_not-le, arith, lit<, lit≤, length-append, length-drop, take-append-drop, length-take, length-take-le, get_or-drop, drop-cons, get_or-take, take-take, drop-drop, take-add, drop_at, eq-eqb, le-leb, leb-true}
-use mathlib.Core.Option.{Option, none, some}
+use Rattle.std.specs.Prelude.{Option, Some, None}
+use Rattle.chapter11.specs.declared.Refusal.{Refusal}
+use Rattle.chapter11.specs.declared.Refusal.TheVariants.{Unfit, Fill}
 use native.Mathlib.Decide.{dec_le}
 use lib.Bits.{xor_self}
 use lib.Count.{ones_in}
@@ -69,8 +71,8 @@ over h s n e = append_assoc (take n h) s (drop (n + length s) h) ∙ ap (λ (l :
 -- ---- the Golay words say the fields
 
 module _ (c t n : ℕ) (hc : c < 65536) (ht : t < 32) (hn : n < 524288) where
-  fields_back : fields_from (some (c / 4096 % 16)) (some (c % 4096)) (some (t % 32 * 128 + n / 4096 % 128)) (some (n % 4096))
-      ≡ some (record { channel = c; trailer = t; size = n })
+  fields_back : fields_from (Some (c / 4096 % 16)) (Some (c % 4096)) (Some (t % 32 * 128 + n / 4096 % 128)) (Some (n % 4096))
+      ≡ Some (record { channel = c; trailer = t; size = n })
   fields_back =
       let e₁ : c / 4096 % 16 % 16 * 4096 + c % 4096 ≡ c = omega arith in
       let upper : n / 4096 % 128 ≡ n / 4096 = omega arith in
@@ -89,7 +91,7 @@ module _ (f : Fields) (sp : List ℕ) where
     pub third : Near sp 6 (f.trailer % 32 * 128 + f.size / 4096 % 128)
     pub fourth : Near sp 9 (f.size % 4096)
 
-  pub fields_read : f.channel < 65536 → f.trailer < 32 → f.size < 524288 → Repairable → fields_of sp ≡ some f
+  pub fields_read : f.channel < 65536 → f.trailer < 32 → f.size < 524288 → Repairable → fields_of sp ≡ Some f
   unfolding fields_of number_at
   fields_read hc ht hn near =
       rw (
@@ -215,15 +217,15 @@ composed_is : (p : List ℕ) (room : ℕ) (sp : List ℕ) → composed_of p room
 unfolding composed_of
 composed_is p room sp e = go (is_packet p) (leb (new_length p) room) (all_zero (cut p)) refl refl e
   where
-    none : (k : ℕ) → refuses k ≡ gives sp → Composed p room sp
+    none : (k : Refusal) → refuses k ≡ gives sp → Composed p room sp
     none k q = let z : ◌≡◌ {A = ℕ} 0 1 = cc in absurd (omega arith)
 
     go : (a b c : Bool) → is_packet p ≡ a → leb (new_length p) room ≡ b
-        → cond a (cond b (cond c (gives (source_packet p)) (refuses 18)) (refuses 17)) (refuses 17) ≡ gives sp → Composed p room sp
+        → cond a (cond b (cond c (gives (source_packet p)) (refuses Fill)) (refuses Unfit)) (refuses Unfit) ≡ gives sp → Composed p room sp
     go true true true is fit q = (is, (leb-true (new_length p) room fit, cc))
-    go true true false is fit q = none 18 q
-    go true false c is fit q = none 17 q
-    go false b c is fit q = none 17 q
+    go true true false is fit q = none Fill q
+    go true false c is fit q = none Unfit q
+    go false b c is fit q = none Unfit q
 
 pub composed_fits : (p : List ℕ) (room : ℕ) (sp : List ℕ) → composed_of p room ≡ gives sp → length sp ≤ room
 composed_fits p room sp e =
@@ -235,11 +237,11 @@ pub reassembled_fits : (sp : List ℕ) (room : ℕ) (s : List ℕ) → reassembl
 unfolding reassembled_of
 reassembled_fits sp room s e = go (leb 24 (length sp)) refl e
   where
-    none_given : refuses 17 ≡ gives s → length s ≤ room
+    none_given : refuses Unfit ≡ gives s → length s ≤ room
     none_given q = let z : ◌≡◌ {A = ℕ} 0 1 = cc in absurd (omega arith)
 
     said : (f : Fields) → 24 ≤ length sp → (a b : Bool) → leb (length sp) room ≡ b
-        → cond a (cond b (gives (packet_of f sp)) (refuses 17)) (refuses 17) ≡ gives s → length s ≤ room
+        → cond a (cond b (gives (packet_of f sp)) (refuses Unfit)) (refuses Unfit) ≡ gives s → length s ≤ room
     said f long true true fit q =
         let same : packet_of f sp ≡ s = cc in
         omega (arith, ap length same, packet_length_lem f sp (omega arith), leb-true (length sp) room fit)
@@ -247,10 +249,10 @@ reassembled_fits sp room s e = go (leb 24 (length sp)) refl e
     said f long false b fit q = none_given q
 
     with_fields : (o : Option Fields) → 24 ≤ length sp → packet_with o sp room ≡ gives s → length s ≤ room
-    with_fields none long q = none_given q
-    with_fields (some f) long q = said f long (eqb (24 + f.trailer + f.size) (length sp)) (leb (length sp) room) refl q
+    with_fields None long q = none_given q
+    with_fields (Some f) long q = said f long (eqb (24 + f.trailer + f.size) (length sp)) (leb (length sp) room) refl q
 
-    go : (t : Bool) → leb 24 (length sp) ≡ t → cond t (packet_with (fields_of sp) sp room) (refuses 17) ≡ gives s → length s ≤ room
+    go : (t : Bool) → leb 24 (length sp) ≡ t → cond t (packet_with (fields_of sp) sp room) (refuses Unfit) ≡ gives s → length s ≤ room
     go true h q = with_fields (fields_of sp) (leb-true 24 (length sp) h) q
     go false h q = none_given q
 

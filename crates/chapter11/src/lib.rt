@@ -4,18 +4,29 @@
 ghost use Rattle.std.specs.Prelude.{◌≡◌, ◌+◌, ◌≤◌, true, length, ◌==◌};
 ghost use Rattle.block.specs.Block.{put};
 ghost use Rattle.chapter11.specs.Packet.{is_packet, new_length, cut_in};
-ghost use Rattle.chapter11.specs.Source.{fields_in, left, source_packet, composed_of, packet_of, reassembled_of};
+ghost use Rattle.chapter11.specs.Source.{refusal_number, fields_in, left, source_packet, composed_of, packet_of, reassembled_of};
 
 mod packet;
 mod words;
 
 use packet::Cut;
 
-// How many bytes the result has, at the buffer's start; or the number of the refusal.
+// Document 02's numbers 17 and 18.
 #[derive(Clone, Copy)]
-pub enum Answer {
-    Done(usize),
-    Refused(u8),
+pub enum Refusal {
+    Unfit,
+    Fill,
+}
+
+impl From<Refusal> for u8 {
+    ghost from_gives = { λ k n. n ≡ refusal_number k };
+
+    fn from(k: Refusal) -> u8 {
+        match k {
+            Refusal::Unfit => 17,
+            Refusal::Fill => 18,
+        }
+    }
 }
 
 // What the Golay words of a source packet say.
@@ -24,20 +35,6 @@ struct Fields {
     channel: usize,
     trailer: usize,
     size: usize,
-}
-
-// A Golay word's number.
-#[derive(Clone, Copy)]
-enum Number {
-    Beyond,
-    Is(u16),
-}
-
-// The fields, if none of the words is beyond repair.
-#[derive(Clone, Copy)]
-enum Read {
-    Beyond,
-    Whole(Fields),
 }
 
 // The fields of a packet that has n bytes once its fill is cut.
@@ -71,36 +68,30 @@ fn write_source(packet: &[u8], cut: Cut, out: &mut [u8]) -> usize
     block::put(out, at, &packet[till..])
 }
 
-// Composes the source packet of a Chapter 11 packet.
-pub fn compose(packet: &[u8], out: &mut [u8]) -> Answer
+// Composes the source packet of a Chapter 11 packet, at out's start, and answers how many bytes it has.
+pub fn compose(packet: &[u8], out: &mut [u8]) -> Result<usize, Refusal>
     ensures { record { answer = result; buffer = out.new } ≡ left out.old (composed_of packet.now (length out.old)) }
 {
     if !packet::is_packet(packet) {
-        return Answer::Refused(17);
+        return Err(Refusal::Unfit);
     }
     let cut = packet::cut_of(packet);
     let from = cut.from;
     let till = cut.till;
     if out.len() < cut.left {
-        return Answer::Refused(17);
+        return Err(Refusal::Unfit);
     }
     if !packet::is_zero(&packet[from..till]) {
-        return Answer::Refused(18);
+        return Err(Refusal::Fill);
     }
-    Answer::Done(write_source(packet, cut, out))
+    Ok(write_source(packet, cut, out))
 }
 
 // Whether a source packet of n bytes can have these fields.
 fn agree(fields: Fields, n: usize) -> bool
     ensures { result ≡ (24 + fields.trailer + fields.size == n) }
 {
-    if n < 24 {
-        return false;
-    }
-    if n - 24 < fields.trailer {
-        return false;
-    }
-    n - 24 - fields.trailer == fields.size
+    24 <= n && fields.trailer <= n - 24 && n - 24 - fields.trailer == fields.size
 }
 
 // Writes the packet of a source packet with these fields.
@@ -108,28 +99,28 @@ fn write_packet(fields: Fields, sp: &[u8], out: &mut [u8]) -> usize
     requires { (24 ≤ length sp.now) × (length sp.now ≤ length out.old) }
     ensures { record { bytes = out.new; at = result } ≡ put out.old 0 (packet_of fields sp.now) }
 {
-    let mut at = block::put(out, 0, &packet::two_of(0xEB25));
+    let mut at = block::put(out, 0, &packet::two_of(packet::SYNC as usize));
     at = block::put(out, at, &packet::two_of(fields.channel));
     at = block::put(out, at, &packet::four_of(sp.len()));
     at = block::put(out, at, &packet::four_of(fields.size));
     block::put(out, at, &sp[12..])
 }
 
-// Reassembles the Chapter 11 packet of a source packet.
-pub fn reassemble(sp: &[u8], out: &mut [u8]) -> Answer
+// Reassembles the Chapter 11 packet of a source packet, at out's start, and answers how many bytes it has.
+pub fn reassemble(sp: &[u8], out: &mut [u8]) -> Result<usize, Refusal>
     ensures { record { answer = result; buffer = out.new } ≡ left out.old (reassembled_of sp.now (length out.old)) }
 {
     if sp.len() < 24 {
-        return Answer::Refused(17);
+        return Err(Refusal::Unfit);
     }
-    let Read::Whole(fields) = words::fields_of(sp) else {
-        return Answer::Refused(17);
+    let Some(fields) = words::fields_of(sp) else {
+        return Err(Refusal::Unfit);
     };
     if !agree(fields, sp.len()) {
-        return Answer::Refused(17);
+        return Err(Refusal::Unfit);
     }
     if out.len() < sp.len() {
-        return Answer::Refused(17);
+        return Err(Refusal::Unfit);
     }
-    Answer::Done(write_packet(fields, sp, out))
+    Ok(write_packet(fields, sp, out))
 }

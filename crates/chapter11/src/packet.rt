@@ -1,6 +1,12 @@
 // A Chapter 11 packet's header: its fields, its checksum, and where its fill stands.
-ghost use Rattle.std.specs.Prelude.{◌≡◌, ◌+◌, ◌≤◌, true, length, take};
-ghost use Rattle.chapter11.specs.Packet.{two_at, four_at, two, four, secondary_by, sum_size_by, header_sum, together as Packet·together, is_packet, cut_in, all_zero, header_for};
+ghost use Rattle.std.specs.Prelude.{◌≡◌, ◌↔◌, ◌+◌, ◌≤◌, true, length, take, IsTrue, All};
+ghost use Rattle.chapter11.specs.Packet.{two_at, four_at, two, four, secondary_by, sum_size_by, header_sum, together as Packet·together, is_packet, cut_in, header_for};
+
+// The sync pattern.
+pub const SYNC: u16 = 0xEB25;
+
+// The most bytes that a packet may have.
+const LONGEST: usize = 131072;
 
 // Where the fill to be cut begins and ends, and how many bytes the packet has without it.
 #[derive(Clone, Copy)]
@@ -15,7 +21,7 @@ pub fn two_at(p: &[u8], i: usize) -> u16
     requires { i + 2 ≤ length p.now }
     ensures { result ≡ two_at p.now i }
 {
-    p[i] as u16 + p[i + 1] as u16 * 256
+    u16::from_le_bytes([p[i], p[i + 1]])
 }
 
 // The number of four bytes, least significant first.
@@ -23,24 +29,20 @@ pub fn four_at(p: &[u8], i: usize) -> usize
     requires { i + 4 ≤ length p.now }
     ensures { result ≡ four_at p.now i }
 {
-    two_at(p, i) as usize + two_at(p, i + 2) as usize * 65536
+    u32::from_le_bytes([p[i], p[i + 1], p[i + 2], p[i + 3]]) as usize
 }
 
+// The two low bytes of a number, and the four low ones, least significant first.
 pub fn two_of(n: usize) -> [u8; 2]
     ensures { result ≡ two n }
 {
-    [(n % 256) as u8, (n / 256 % 256) as u8]
+    ((n % 65536) as u16).to_le_bytes()
 }
 
 pub fn four_of(n: usize) -> [u8; 4]
     ensures { result ≡ four n }
 {
-    [
-        (n % 256) as u8,
-        (n / 256 % 256) as u8,
-        (n / 65536 % 256) as u8,
-        (n / 65536 / 256 % 256) as u8,
-    ]
+    ((n % 4294967296) as u32).to_le_bytes()
 }
 
 // Bytes of secondary header.
@@ -55,10 +57,7 @@ fn sum_size(flags: u8) -> usize
     ensures { result ≡ sum_size_by flags }
 {
     let kind = flags % 4;
-    if kind == 3 {
-        return 4;
-    }
-    kind as usize
+    if kind == 3 { 4 } else { kind as usize }
 }
 
 // The sum of the header's words but the last, which is where it stands.
@@ -68,7 +67,7 @@ fn sum_of(header: &[u8]) -> u16
 {
     let mut sum: u16 = 0;
     for i in 0..11 {
-        sum = std::num::wrapping_add_u16(sum, two_at(header, 2 * i));
+        sum = sum.wrapping_add(two_at(header, 2 * i));
     }
     sum
 }
@@ -84,19 +83,12 @@ fn together(p: &[u8]) -> usize
 pub fn is_packet(p: &[u8]) -> bool
     ensures { result ≡ is_packet p.now }
 {
-    if p.len() < 24 {
-        return false;
-    }
-    if 131072 < p.len() {
-        return false;
-    }
-    if two_at(p, 0) != 0xEB25 {
-        return false;
-    }
-    if four_at(p, 4) != p.len() {
-        return false;
-    }
-    if two_at(p, 22) != sum_of(p) {
+    if p.len() < 24
+        || LONGEST < p.len()
+        || two_at(p, 0) != SYNC
+        || four_at(p, 4) != p.len()
+        || two_at(p, 22) != sum_of(p)
+    {
         return false;
     }
     together(p) <= p.len()
@@ -118,14 +110,9 @@ pub fn cut_of(p: &[u8]) -> Cut
 }
 
 pub fn is_zero(s: &[u8]) -> bool
-    ensures { result ≡ all_zero s.now }
+    ensures { IsTrue result ↔ All (λ b. b ≡ 0) s.now }
 {
-    for i in 0..s.len() {
-        if s[i] != 0 {
-            return false;
-        }
-    }
-    true
+    s.iter().all(|&b| b == 0)
 }
 
 // The packet's header for a packet of n bytes, with the checksum that goes with it.

@@ -1,10 +1,8 @@
 // The protected fields of a Chapter 11 source packet: four Golay words.
-ghost use Rattle.std.specs.Prelude.{◌≡◌, ◌+◌, ◌≤◌, length};
-ghost use Rattle.std.proofs.Math.Option.{some};
-ghost use Rattle.chapter11.specs.Source.{protected, number_at, said_of, fields_from, fields_of, read_of};
+ghost use Rattle.std.specs.Prelude.{◌≡◌, ◌+◌, ◌≤◌, length, Some};
+ghost use Rattle.chapter11.specs.Source.{protected, number_at, fields_from, fields_of};
 
-use crate::{Fields, Number, Read};
-use golay::Decoded;
+use crate::Fields;
 
 // The fields as they are sent, of each number the bits that it has place for.
 pub fn protect(fields: Fields) -> [u8; 12]
@@ -15,32 +13,26 @@ pub fn protect(fields: Fields) -> [u8; 12]
     let upper = (fields.trailer % 32 * 128 + size / 4096 % 128) as u16;
     let first = golay::pair::encode_pair((channel / 4096 % 16) as u16, (channel % 4096) as u16);
     let last = golay::pair::encode_pair(upper, (size % 4096) as u16);
-    let a = digits::three_of(first.first);
-    let b = digits::three_of(first.second);
-    let c = digits::three_of(last.first);
-    let d = digits::three_of(last.second);
+    let a = digits::digits_of::<3>(first.first as u64);
+    let b = digits::digits_of::<3>(first.second as u64);
+    let c = digits::digits_of::<3>(last.first as u64);
+    let d = digits::digits_of::<3>(last.second as u64);
     [
         a[0], a[1], a[2], b[0], b[1], b[2], c[0], c[1], c[2], d[0], d[1], d[2],
     ]
 }
 
-// The number of the Golay word at index i.
-fn number_at(sp: &[u8], i: usize) -> Number
+// The number of the Golay word at index i; none beyond repair.
+fn number_at(sp: &[u8], i: usize) -> Option<u16>
     requires { i + 3 ≤ length sp.now }
-    ensures { result ≡ said_of (number_at sp.now i) }
+    ensures { result ≡ number_at sp.now i }
 {
-    match golay::decode(digits::from_three(sp[i], sp[i + 1], sp[i + 2])) {
-        Decoded::Word {
-            number,
-            flips: _,
-            places: _,
-        } => Number::Is(number),
-        Decoded::Beyond => Number::Beyond,
-    }
+    let word = golay::decode(digits::from_three(sp[i], sp[i + 1], sp[i + 2]))?;
+    Some(word.number)
 }
 
 fn fields_from(a: u16, b: u16, c: u16, d: u16) -> Fields
-    ensures { some result ≡ fields_from (some a) (some b) (some c) (some d) }
+    ensures { Some result ≡ fields_from (Some a) (Some b) (Some c) (Some d) }
 {
     Fields {
         channel: (a % 16) as usize * 4096 + b as usize,
@@ -50,21 +42,13 @@ fn fields_from(a: u16, b: u16, c: u16, d: u16) -> Fields
 }
 
 // The fields that an SP begins with, if none of its words is beyond repair.
-pub fn fields_of(sp: &[u8]) -> Read
+pub fn fields_of(sp: &[u8]) -> Option<Fields>
     requires { 12 ≤ length sp.now }
-    ensures { result ≡ read_of (fields_of sp.now) }
+    ensures { result ≡ fields_of sp.now }
 {
-    let Number::Is(a) = number_at(sp, 0) else {
-        return Read::Beyond;
-    };
-    let Number::Is(b) = number_at(sp, 3) else {
-        return Read::Beyond;
-    };
-    let Number::Is(c) = number_at(sp, 6) else {
-        return Read::Beyond;
-    };
-    let Number::Is(d) = number_at(sp, 9) else {
-        return Read::Beyond;
-    };
-    Read::Whole(fields_from(a, b, c, d))
+    let a = number_at(sp, 0)?;
+    let b = number_at(sp, 3)?;
+    let c = number_at(sp, 6)?;
+    let d = number_at(sp, 9)?;
+    Some(fields_from(a, b, c, d))
 }

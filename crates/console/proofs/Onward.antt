@@ -6,23 +6,19 @@ use mathlib.Core.List.{List}
 use native.Mathlib.Omega.{arith}
 use lib.ListN.{length, take, drop, length-take, length-drop}
 use lib.Seq.{drop-drop}
+use Rattle.std.specs.Prelude.{Option, Some, Ok}
 use Rattle.house.specs.declared.Record.{Record}
 use Rattle.house.specs.declared.Place.{Place}
-use Rattle.house.specs.declared.Setup.{Setup}
-use Rattle.house.specs.declared.AtHand.TheVariants.{Whole}
 use Rattle.house.specs.Series.{unread_in}
 use Rattle.house.specs.Slices.{at_hand, data_in}
 use Rattle.house.proofs.Slicing.{whole_fits}
 use Rattle.queue.proofs.Copies.{drop_take}
 use Rattle.console.specs.declared.Unread.{Unread}
-use Rattle.console.specs.declared.More.{More}
-use Rattle.console.specs.declared.More.TheVariants.{Read}
 use Rattle.console.specs.declared.Start.{Start}
-use Rattle.console.specs.declared.Start.TheVariants.{Ready}
 use Rattle.console.specs.Taking.{Onward, Goes, Begins, Told}
 
 -- the data of a whole record end where the stretch does, or before
-pub data_within : (p : Place) (b x : List ℕ) (from till : ℕ) (r : Record) → from ≤ till → at_hand p (take (till - from) (drop from b)) ≡ Whole r → x ≡ data_in r (take (till - from) (drop from b)) → from + 8 + length x ≤ till
+pub data_within : (p : Place) (b x : List ℕ) (from till : ℕ) (r : Record) → from ≤ till → at_hand p (take (till - from) (drop from b)) ≡ Ok (Some r) → x ≡ data_in r (take (till - from) (drop from b)) → from + 8 + length x ≤ till
 data_within p b x from till r h is e =
     let s = take (till - from) (drop from b) in
     let long : length s ≤ till - from = rw length-take (omega arith) in
@@ -41,8 +37,8 @@ unread_behind block from till k to e h =
 
 -- what `first` and `go_on` promise, once their case is known
 
-pub begins : (d : List ℕ) (s : Setup) (v : Unread) (z : Start) → Told d z → z ≡ Ready s v → Begins d s v
-begins d s v z h is = subst (Told d) is h
+pub begins : (d : List ℕ) (z : Start) (r : Option Start) → Told d r → r ≡ Some z → Begins d z.setup z.unread
+begins d z r h is = subst (Told d) is h
 
-pub goes_on : (d : List ℕ) (u : Unread) (b : List ℕ) (v : Unread) (m : More) → Goes d u b m → m ≡ Read v → Onward d u b v
-goes_on d u b v m h is = subst (Goes d u b) is h
+pub goes_on : (d : List ℕ) (u : Unread) (b : List ℕ) (v : Unread) (r : Option Unread) → Goes d u b r → r ≡ Some v → Onward d u b v
+goes_on d u b v r h is = subst (Goes d u b) is h

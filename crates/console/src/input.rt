@@ -1,122 +1,114 @@
 // Standard input, block by block.
-ghost use Rattle.console.specs.Taking.{ReadOn, Goes, Chosen, Told};
+ghost use Rattle.std.specs.Prelude.{◌≡◌};
+ghost use Rattle.house.specs.Setups.{settings_of};
+ghost use Rattle.console.specs.Taking.{ReadOn, Goes, Told};
 
-use crate::{More, Start, Unread, output, stretch};
-use house::{AtHand, Fault, Place, Settings};
+use crate::{Console, Start, Unread, stretch};
+use house::{Fault, Place, Setup};
 
-// Says why nothing more is read, where the last record is not whole or the first one is missing.
-fn say_end(rt: &HostRuntime, program: &[u8], begin: u64, is_read: bool, n: usize) {
-    if !is_read {
-        output::say(rt, program, b"cannot read\n");
-        return;
+impl Console<'_> {
+    // Says why nothing more is read, where the last record is not whole or the first one is missing.
+    fn say_end(self, begin: u64, is_read: bool, n: usize) {
+        if !is_read {
+            self.say("cannot read");
+        } else if 0 < n {
+            self.stop(begin, Fault::Short);
+        } else if begin == 0 {
+            self.say("no setup record");
+        }
     }
-    if 0 < n {
-        output::stop(rt, program, begin, Fault::Short);
-        return;
-    }
-    if begin == 0 {
-        output::say(rt, program, b"no setup record\n");
-    }
-}
 
-// Reads on behind the stretch.
-fn read_on(rt: &HostRuntime, program: &[u8], block: &mut [u8], unread: Unread) -> More
-    ensures { ReadOn block.old unread block.new result }
-{
-    let begin = stretch::begin_of(unread);
-    let n = stretch::to_start(block, unread);
-    let got = streams::read(rt, &mut block[n..]);
-    let count = got.unwrap_or(0);
-    if 0 < count {
-        return More::Read(Unread {
-            gone: begin,
+    // Reads on behind the stretch.
+    fn read_on(self, block: &mut [u8], unread: Unread) -> Option<Unread>
+        ensures { ReadOn block.old unread block.new result }
+    {
+        let begin = stretch::begin_of(unread);
+        let n = stretch::to_start(block, unread);
+        let got = streams::read(self.rt, &mut block[n..]);
+        let count = got.unwrap_or(0);
+        if 0 < count {
+            return Some(Unread {
+                gone: begin,
+                from: 0,
+                till: n + count,
+            });
+        }
+        self.say_end(begin, got.is_some(), n);
+        None
+    }
+
+    // Where no more records of the block can be taken: writes out what is held, and reads on unless a whole record is at hand. A bad
+    // one stops the program.
+    pub(crate) fn go_on(
+        self,
+        place: Place,
+        block: &mut [u8],
+        unread: Unread,
+        held: &[u8],
+    ) -> Option<Unread>
+        ensures { Goes block.old unread block.new result }
+    {
+        let here = stretch::in_block(unread, block.len());
+        let hand = house::read_record(place, stretch::bytes_of(block, here));
+        if let Err(fault) = hand {
+            self.stop(stretch::begin_of(here), fault);
+        }
+        if !self.flush(held, held.len()) {
+            return None;
+        }
+        match hand {
+            Err(_) => None,
+            Ok(Some(_)) => Some(here),
+            Ok(None) => self.read_on(block, here),
+        }
+    }
+
+    // Says which number refused the record at the start of the stretch.
+    pub(crate) fn refused(self, unread: Unread, number: u8) {
+        self.refusal(stretch::begin_of(unread), number);
+    }
+
+    // The settings that a setup record's data say; it is told where they are outside the limits.
+    pub fn settings(self, data: &[u8]) -> Option<Setup>
+        ensures { result ≡ settings_of «data».now }
+    {
+        let found = house::read_setup(data);
+        if found.is_none() {
+            self.stop(0, Fault::Limits);
+        }
+        found
+    }
+
+    // The setup, whose record is then at the block's start.
+    pub fn first(self, block: &mut [u8]) -> Option<Start>
+        ensures { Told block.new result }
+    {
+        let mut unread = Unread {
+            gone: 0,
             from: 0,
-            till: n + count,
-        });
-    }
-    say_end(rt, program, begin, got.is_some(), n);
-    More::End
-}
-
-// Where no more records of the block can be taken: writes out what is held, and reads on unless a whole record is at hand. A bad one
-// stops the program.
-pub fn go_on(
-    rt: &HostRuntime,
-    program: &[u8],
-    place: Place,
-    block: &mut [u8],
-    unread: Unread,
-    out: &[u8],
-    at: usize,
-) -> More
-    ensures { Goes block.old unread block.new result }
-{
-    let here = stretch::in_block(unread, block.len());
-    let hand = house::read_record(place, stretch::bytes_of(block, here));
-    if let AtHand::Bad(fault) = hand {
-        output::stop(rt, program, stretch::begin_of(here), fault);
-    }
-    if !output::flush(rt, program, out, at) {
-        return More::End;
-    }
-    match hand {
-        AtHand::Bad(_) => More::End,
-        AtHand::Whole(_) => More::Read(here),
-        AtHand::Part => read_on(rt, program, block, here),
-    }
-}
-
-// Says which number refused the record at the start of the stretch.
-pub fn refused(rt: &HostRuntime, program: &[u8], unread: Unread, number: u8) {
-    output::refusal(rt, program, stretch::begin_of(unread), number);
-}
-
-fn setup_in(rt: &HostRuntime, program: &[u8], data: &[u8], behind: Unread) -> Start
-    ensures { Chosen «data».now behind result }
-{
-    match house::read_setup(data) {
-        Settings::Outside => {
-            output::stop(rt, program, 0, Fault::Limits);
-            Start::End
-        }
-        Settings::Within(setup) => Start::Ready(setup, behind),
-    }
-}
-
-// The setup, whose record is then at the block's start.
-pub fn first(rt: &HostRuntime, program: &[u8], block: &mut [u8]) -> Start
-    ensures { Told block.new result }
-{
-    let mut unread = Unread {
-        gone: 0,
-        from: 0,
-        till: 0,
-    };
-    while unread.till < block.len() {
-        let More::Read(longer) = read_on(rt, program, block, unread) else {
-            return Start::End;
+            till: 0,
         };
-        unread = longer;
-        let s = stretch::bytes_of(block, unread);
-        match house::read_record(Place::Start, s) {
-            AtHand::Part => {}
-            AtHand::Bad(fault) => {
-                output::stop(rt, program, 0, fault);
-                return Start::End;
-            }
-            AtHand::Whole(said) => {
-                return setup_in(
-                    rt,
-                    program,
-                    house::data_of(said, s),
-                    Unread {
-                        gone: 0,
-                        from: 13,
-                        till: unread.till,
-                    },
-                );
+        while unread.till < block.len() {
+            unread = self.read_on(block, unread)?;
+            let s = stretch::bytes_of(block, unread);
+            match house::read_record(Place::Start, s) {
+                Ok(None) => {}
+                Err(fault) => {
+                    self.stop(0, fault);
+                    return None;
+                }
+                Ok(Some(said)) => {
+                    return Some(Start {
+                        setup: self.settings(house::data_of(said, s))?,
+                        unread: Unread {
+                            gone: 0,
+                            from: 13,
+                            till: unread.till,
+                        },
+                    });
+                }
             }
         }
+        None
     }
-    Start::End
 }

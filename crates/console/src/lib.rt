@@ -1,21 +1,31 @@
 // What every program that reads records does with standard input, output and error: an input block from which records are taken,
-// blocks out, and a line on whatever went wrong. A program's own loop takes the whole records of the block, then calls `go_on`.
+// blocks out, and a line on whatever went wrong. What a program does with the records is its own: it is a `Program`.
 #![tactic(auto)]
 
 mod input;
 mod output;
+mod program;
 mod stretch;
 
 use house::Setup;
-pub use input::{first, go_on, refused};
-pub use output::{flush, say, stop};
-pub use stretch::bytes_of;
+pub use program::{Program, Refused, Taken};
+pub use stretch::{begin_of, bytes_of};
 
 // No input has so many blocks: a loop over them ends for this.
 pub const BLOCKS: u64 = 0x3FFFFFFFFFFF;
 
+// The bytes of an input block.
+pub const SIZE: usize = 131072;
+
 // The output block is written out when so much is held.
 pub const FULL: usize = 61440;
+
+// A program's standard streams; each line to standard error begins with the program's name.
+#[derive(Clone, Copy)]
+pub struct Console<'a> {
+    pub rt: &'a HostRuntime,
+    pub program: &'a str,
+}
 
 // How many bytes of the input came before the input block, and the stretch of it that was read and is not yet taken.
 #[derive(Clone, Copy)]
@@ -25,16 +35,9 @@ pub struct Unread {
     pub till: usize,
 }
 
-// What more there is: nothing that could be read, or the block's new stretch.
+// The settings of the first record, and what follows it.
 #[derive(Clone, Copy)]
-pub enum More {
-    End,
-    Read(Unread),
-}
-
-// The settings of the first record with what follows it, or nothing to do.
-#[derive(Clone, Copy)]
-pub enum Start {
-    End,
-    Ready(Setup, Unread),
+pub struct Start {
+    pub setup: Setup,
+    pub unread: Unread,
 }

@@ -1,6 +1,6 @@
 // The input block's unread stretch.
-ghost use Rattle.std.specs.Prelude.{◌≡◌, length};
-ghost use Rattle.console.specs.Taking.{stretch, moved, begin_of, within};
+ghost use Rattle.std.specs.Prelude.{◌≡◌, ◌+◌, ◌<◌, length};
+ghost use Rattle.console.specs.Taking.{stretch, moved, begin_of, within, behind};
 
 use crate::Unread;
 
@@ -8,11 +8,11 @@ use crate::Unread;
 pub fn in_block(unread: Unread, size: usize) -> Unread
     ensures { result ≡ within size unread }
 {
-    let till = queue::least(unread.till, size);
+    let till = unread.till.min(size);
     Unread {
-        gone: unread.gone,
-        from: queue::least(unread.from, till),
+        from: unread.from.min(till),
         till,
+        ..unread
     }
 }
 
@@ -20,20 +20,15 @@ pub fn in_block(unread: Unread, size: usize) -> Unread
 pub fn begin_of(unread: Unread) -> u64
     ensures { result ≡ begin_of unread }
 {
-    let from = unread.from as u64;
-    if 0xFFFFFFFFFFFFFFFF - unread.gone < from {
-        return 0xFFFFFFFFFFFFFFFF;
-    }
-    unread.gone + from
+    unread.gone.saturating_add(unread.from as u64)
 }
 
 // The bytes of the stretch.
 pub fn bytes_of(block: &[u8], unread: Unread) -> &[u8]
     ensures { result.now ≡ stretch block.now unread }
 {
-    let till = queue::least(unread.till, block.len());
-    let from = queue::least(unread.from, till);
-    &block[from..till]
+    let here = in_block(unread, block.len());
+    &block[here.from..here.till]
 }
 
 // Moves the stretch to the block's start, and answers its length.
@@ -41,16 +36,18 @@ pub fn to_start(block: &mut [u8], unread: Unread) -> usize
     ensures value { result ≡ length (stretch block.old unread) }
     ensures block_after { block.new ≡ moved block.old unread }
 {
-    let till = queue::least(unread.till, block.len());
-    let from = queue::least(unread.from, till);
-    if from == 0 {
-        return till;
+    let here = in_block(unread, block.len());
+    block.copy_within(here.from..here.till, 0);
+    here.till - here.from
+}
+
+// The stretch behind its first n bytes.
+pub fn behind(unread: Unread, n: usize) -> Unread
+    requires { unread.from + n < 18446744073709551616 }
+    ensures { result ≡ behind unread n }
+{
+    Unread {
+        from: unread.from + n,
+        ..unread
     }
-    let n = till - from;
-    let mut i = 0;
-    while i < n {
-        block[i] = block[from + i];
-        i += 1;
-    }
-    n
 }

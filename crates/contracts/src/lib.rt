@@ -11,11 +11,11 @@ ghost use Rattle.sender.specs.Opening.{Sound};
 ghost use Rattle.sender.specs.Offering.{ordinary_offered};
 ghost use Rattle.sender.specs.Drawing.{drew};
 
-use golay::Decoded;
+use golay::Word;
 use receiver::{Receiver, Step};
-use sender::{Answer, Sender};
+use sender::{Refusal, Sender};
 
-pub fn decode(w: u32) -> Decoded
+pub fn decode(w: u32) -> Option<Word>
     ensures { Decodes w result }
 {
     golay::decode(w)
@@ -28,14 +28,20 @@ pub fn next(r: Receiver, tp: &[u8], room: &mut [u8]) -> Step
     receiver::next(r, tp, room)
 }
 
-pub fn offer(s: Sender, low: &[u8], ordinary: &mut [u8], content: u8, sp: &[u8]) -> Answer
+pub fn offer(
+    s: Sender,
+    low: &[u8],
+    ordinary: &mut [u8],
+    content: u8,
+    sp: &[u8],
+) -> Result<Sender, Refusal>
     requires { Sound s }
     ensures { record { given = given_by result; buffer = ordinary.new } ≡ ordinary_offered s low.now ordinary.old content sp.now }
 {
     sender::offer_ordinary(s, low, ordinary, content, sp)
 }
 
-pub fn draw(s: Sender, low: &[u8], ordinary: &[u8], tp: &mut [u8]) -> Answer
+pub fn draw(s: Sender, low: &[u8], ordinary: &[u8], tp: &mut [u8]) -> Result<Sender, Refusal>
     requires { Sound s }
     ensures { record { given = given_by result; buffer = tp.new } ≡ drew s low.now ordinary.now tp.old }
 {

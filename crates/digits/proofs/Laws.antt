@@ -2,9 +2,12 @@
 -- Assumes nothing.
 use mathlib.Core.Path.{◌≡◌, refl, sym, ap, ◌∙◌}
 use mathlib.Core.List.{List, [], ◌∷◌, ◌++◌, append_assoc, append-nil}
-use Prim.Native.Nat.{ℕ, zero, suc, ◌+◌, ◌*◌, ◌/◌, ◌%◌, ◌^◌, ◌<◌}
+use Prim.Native.Nat.{ℕ, zero, suc, ◌+◌, ◌-◌, ◌*◌, ◌/◌, ◌%◌, ◌^◌, ◌<◌, ◌≤◌}
 use native.Mathlib.Omega.{arith}
-use lib.ListN.{length, get_or, length-append}
+use lib.ListN.{length, get_or, set, drop, length-append}
+use lib.Seq.{drop-length}
+use native.Mathlib.Numerals.{add-one}
+use Rattle.std.proofs.lemmas.List.{drop-set}
 use Rattle.digits.specs.Digits.{digits, number}
 
 pub length_digits : (k n : ℕ) → length (digits k n) ≡ k
@@ -20,6 +23,25 @@ number_digits zero n h = let e : n ≡ 0 = omega arith in sym e
 number_digits (suc k) n h =
     let upper = number_digits k (n / 256) (omega arith) in
     number_append 0 (digits k (n / 256)) (n % 256 ∷ []) ∙ ap (λ (m : ℕ). m * 256 + n % 256) upper ∙ omega arith
+
+-- ---- a number's digits written from the last on, i of them left
+
+module _ (N n : ℕ) (bs : List ℕ) where
+  pub none_written : length bs ≡ N → digits N n ++ drop N bs ≡ digits N n
+  none_written e = rw (← e, drop-length bs, append-nil (digits (length bs) n))
+
+module _ (n : ℕ) (bs : List ℕ) where
+  one_written : (k : ℕ) → k < length bs → digits k (n / 256) ++ drop k (set bs k (n % 256)) ≡ digits (suc k) n ++ drop (suc k) bs
+  one_written k within =
+      ap (λ (ys : List ℕ). digits k (n / 256) ++ ys) (rw add-one at (drop-set bs k (n % 256) within))
+      ∙ sym (append_assoc (digits k (n / 256)) (n % 256 ∷ []) (drop (suc k) bs))
+
+  pub one_more : (i : ℕ) → 0 < i → i ≤ length bs → digits (i - 1) (n / 256) ++ drop (i - 1) (set bs (i - 1) (n % 256)) ≡ digits i n ++ drop i bs
+  one_more i some within = let next : suc (i - 1) ≡ i = omega arith in one_written (i - 1) (omega arith) ∙ ap (λ (j : ℕ). digits j n ++ drop j bs) next
+
+pub all_written : (i n : ℕ) (bs : List ℕ) → i ≤ 0 → bs ≡ digits i n ++ drop i bs
+all_written zero n bs none = refl
+all_written (suc k) n bs none = absurd (omega arith)
 
 abbrev pub Bytes : List ℕ → Type 0
 Bytes bs = (i : ℕ) → get_or bs i 0 < 256

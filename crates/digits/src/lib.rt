@@ -4,33 +4,20 @@
 ghost use Rattle.std.specs.Prelude.{◌≡◌, [], ◌∷◌};
 ghost use Rattle.digits.specs.Digits.{digits, number};
 
-pub fn two_of(n: u16) -> [u8; 2]
-    ensures { result ≡ digits 2 n }
+// The N low bytes of n.
+pub fn digits_of<const N: usize>(n: u64) -> [u8; N]
+    ensures { result ≡ digits N n }
 {
-    [(n / 256 % 256) as u8, (n % 256) as u8]
+    let mut bytes = [0; N];
+    let mut rest = n;
+    for i in (0..N).rev() {
+        bytes[i] = (rest % 256) as u8;
+        rest /= 256;
+    }
+    bytes
 }
 
-pub fn three_of(w: u32) -> [u8; 3]
-    ensures { result ≡ digits 3 w }
-{
-    [
-        (w / 256 / 256 % 256) as u8,
-        (w / 256 % 256) as u8,
-        (w % 256) as u8,
-    ]
-}
-
-pub fn four_of(n: usize) -> [u8; 4]
-    ensures { result ≡ digits 4 n }
-{
-    [
-        (n / 256 / 256 / 256 % 256) as u8,
-        (n / 256 / 256 % 256) as u8,
-        (n / 256 % 256) as u8,
-        (n % 256) as u8,
-    ]
-}
-
+// A function for each width: each gives the type that its callers compute in, and one for all would leave them a cast to prove.
 pub fn from_two(a: u8, b: u8) -> usize
     ensures { result ≡ number 0 (a ∷ b ∷ []) }
 {

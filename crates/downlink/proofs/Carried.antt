@@ -3,13 +3,13 @@
 use Prim.Native.Nat.{ℕ, suc, ◌+◌, ◌-◌, ◌%◌, ◌≤◌, ◌<◌}
 use mathlib.Core.Path.{◌≡◌, refl, sym, ap, ◌∙◌, subst, subst⁻¹}
 use mathlib.Core.Bool.{Bool, true, false, cond}
-use mathlib.Core.Option.{Option, none, some}
 use mathlib.Core.List.{List, [], ◌∷◌}
 use native.Mathlib.Omega.{arith}
 use lib.Dec.{leb, eqb}
 use lib.ListN.{length, take, drop, get_or, length-drop}
 use lib.Seq.{get_or-drop}
 use borrow.Author.Tests.{eqb-true}
+use Rattle.std.specs.Prelude.{Option, None, Some}
 use Rattle.digits.specs.Digits.{number}
 use Rattle.wire.specs.Reading.{tp_number_in, stream_of, version_of}
 use Rattle.receiver.specs.declared.About.{About}
@@ -109,18 +109,18 @@ module _ (r : Receiver) (tp m : List ℕ) (able : Able r) (small : Bytes tp) whe
 
     -- ordinary bytes
     plain_by : (o : Option (Finding wire)) (p : Pulled wire) → PulledOk (length m) began r.size o p → Carried tp (ordinary_by o r t p)
-    plain_by none p (e, ok, h) =
+    plain_by None p (e, ok, h) =
         let b = began_of began p.frame in
         stands_for S.Fresh 0 b (phase_of p.frame) p.frame p.todo p.held p.room F.Nothing (record { repaired = 0; at = start_of t })
-        (says F.Nothing none (start_of t))
+        (says F.Nothing None (start_of t))
         (frame_back began p.frame ok) (no_todo b p.frame ∙ sym e) (held_back (length m) began _ p.held p.room h) refl
         (omega arith) (fine (length m) began p.frame p.held p.room ok h) (settled (length m) began p.frame ok)
-    plain_by (some (notice n g)) p (e, rests, q) =
+    plain_by (Some (notice n g)) p (e, rests, q) =
         stands_for S.Plain p.at rests.began rests.phase p.frame p.todo p.held p.room (F.Notice n) (record { repaired = 0; at = g })
-        (says (F.Notice n) (some n) g)
+        (says (F.Notice n) (Some n) g)
         rests.frame rests.todo rests.kept refl q rests.sound (omega arith)
-    plain_by (some (low c d)) p (e, rests, q) = absurd e
-    plain_by (some (ordinary c d)) p (e, rests, q) =
+    plain_by (Some (low c d)) p (e, rests, q) = absurd e
+    plain_by (Some (ordinary c d)) p (e, rests, q) =
         stands_for S.Plain p.at rests.began rests.phase p.frame p.todo p.held p.room (F.Ordinary c.content (length d))
         (record { repaired = c.repaired; at = c.at }) (hands (F.Ordinary c.content (length d)) c d)
         rests.frame rests.todo rests.kept (ap (λ (d' : List ℕ). hands (F.Ordinary c.content (length d)) c d') e) q rests.sound (omega arith)
@@ -182,8 +182,8 @@ module _ (r : Receiver) (tp m : List ℕ) (able : Able r) (small : Bytes tp) whe
       low_by (L.Gives f e i more at) o p q z = given f e i more at o p q z
 
       worded : (w : Option ℕ) → Carried tp (word_call w r t tp m)
-      worded none = dropping_it 9
-      worded (some w) = go (leb 2048 w)
+      worded None = dropping_it 9
+      worded (Some w) = go (leb 2048 w)
         where
           go : (b : Bool) → Carried tp (payload_call b r t (w % 2048) tp m)
           go true = let b = low_in_lem true tp 4 (lows_of tp 4) (omega (arith, able.size)) refl in low_by (lows_of tp 4) (w % 2048) (omega arith) b.0 b.1
@@ -213,7 +213,7 @@ module _ (r : Receiver) (n : Stamps) (tp m : List ℕ) (able : Able r) (small : 
             → Carried tp (cond a (cond b (word_call w (counted_of r) n.now tp m) (gone (counted_of r) n.now 7 m)) (unchanged r n.before (F.Notice 8) 8 m))
         go true true w = worded (counted_of r) tp m counted small full right n.now still w
         go true false w = dropping_it (counted_of r) tp m counted small full right n.now 7
-        go false b w = as_it_is r tp m able small (F.Notice 8) (start_of n.before) (says (F.Notice 8) (some 8) (start_of n.before)) refl
+        go false b w = as_it_is r tp m able small (F.Notice 8) (start_of n.before) (says (F.Notice 8) (Some 8) (start_of n.before)) refl
 
     staged_by : (g : Stage) → Staged g r.walk → Carried tp (stage_call g r (counted_of r) n tp m)
     staged_by S.Fresh t = fresh_by_lem t
@@ -231,8 +231,8 @@ module _ (r : Receiver) (n : Stamps) (tp m : List ℕ) (able : Able r) (small : 
       go : (a b : Bool) → eqb (length m) r.limit ≡ a → eqb (length tp) r.size ≡ b
           → Carried tp (cond a (cond b (stage_call r.stage r (counted_of r) n tp m) (unchanged r n.before (F.Notice 6) 6 m)) (unchanged r n.before F.Refused 1 m))
       go true true e f = staged_by (eqb-true (length m) r.limit e) (eqb-true (length tp) r.size f) r.stage able.stage
-      go true false e f = as_it_is r tp m able small (F.Notice 6) (start_of n.before) (says (F.Notice 6) (some 6) (start_of n.before)) refl
-      go false b e f = as_it_is r tp m able small F.Refused (start_of n.before) (says F.Refused (some 1) (start_of n.before)) refl
+      go true false e f = as_it_is r tp m able small (F.Notice 6) (start_of n.before) (says (F.Notice 6) (Some 6) (start_of n.before)) refl
+      go false b e f = as_it_is r tp m able small F.Refused (start_of n.before) (says F.Refused (Some 1) (start_of n.before)) refl
 
 -- and by its own count
 pub carried : (r : Receiver) (tp m : List ℕ) → Able r → Bytes tp → Carried tp (call_of r tp m)

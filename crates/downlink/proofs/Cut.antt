@@ -2,12 +2,12 @@
 -- Assumes nothing.
 use Prim.Native.Nat.{ℕ, zero, suc, ◌+◌, ◌-◌, ◌≤◌, ◌<◌}
 use mathlib.Core.Path.{◌≡◌, refl, sym, ap, ◌∙◌, subst⁻¹}
-use mathlib.Core.Option.{Option, none, some}
 use mathlib.Core.List.{List, [], ◌∷◌, ◌++◌, append_assoc, append-nil}
 use native.Mathlib.Omega.{arith}
 use native.Mathlib.Decide.{dec_le}
 use lib.ListN.{length, drop, take, length-append, length-take, take-append-drop}
 use lib.Seq.{take-nil, drop-nil, take-append-le, take-append-add}
+use Rattle.std.specs.Prelude.{Option, None, Some}
 use Rattle.downlink.proofs.plain.Frame.{Code, Frame, lost, idle, head, body, Event, fed, Out, whole, events}
 use Rattle.downlink.proofs.Within as I
 use Rattle.downlink.proofs.Within.{kept, too_early, too_late, beyond}
@@ -20,8 +20,8 @@ module _ (C : Code) where
 
   -- the start of an EP: nothing yet, or its header and some of its data
   abbrev pub opening : Option (C.H × List C.B) → List (Event C)
-  opening none = []
-  opening (some (h, d)) = entering C h (feeds C d)
+  opening None = []
+  opening (Some (h, d)) = entering C h (feeds C d)
 
   bytes_take : (n : ℕ) (cs : List (Cell C)) → bytes C (take n cs) ≡ take n (bytes C cs)
   bytes_take zero cs = refl
@@ -51,7 +51,7 @@ module _ (C : Code) where
 
   stub_bytes : (e : Ep C) (n : ℕ) → n < 6 + length e.load
       → (o : Option (C.H × List C.B)) × (events C idle (take n (e.first ∷ e.more ++ e.load)) ≡ opening o)
-  stub_bytes e zero p = (none, refl)
+  stub_bytes e zero p = (None, refl)
   stub_bytes e (suc m) p = go (dec_le 5 m)
     where
       s : Frame C
@@ -60,14 +60,14 @@ module _ (C : Code) where
       go : Dec (5 ≤ m) → (o : Option (C.H × List C.B)) × (events C s (take m (e.more ++ e.load)) ≡ opening o)
       go (yes q) =
           let split : m ≡ length e.more + (m - 5) = omega (arith, e.six) in (
-            some (e.h, take (m - 5) e.load),
+            Some (e.h, take (m - 5) e.load),
             ap (events C s) (ap (λ n. take n (e.more ++ e.load)) split ∙ take-append-add e.more e.load (m - 5))
                 ∙ ap (λ (o : Out C). o.1) (run_append C s e.more (take (m - 5) e.load)
                 ∙ ap (λ (o : Out C). then C o (take (m - 5) e.load)) (run_head C 4 (e.first ∷ []) e.more e.six ∙ ap (whole C) e.reads))
                 ∙ short_enter e.h (C.size e.h) (take (m - 5) e.load) (omega (arith, length-take (m - 5) e.load, e.sized)),
           )
       go (no q) = (
-        none,
+        None,
         ap (events C s) (take-append-le m e.more e.load (omega (arith, e.six)))
             ∙ quiet_head 4 (e.first ∷ []) (take m e.more) (omega (arith, length-take m e.more)),
       )
@@ -119,7 +119,7 @@ module _ (C : Code) where
 
   pub cut : (from to at : ℕ) (es : List (Ep C)) → Cut (drop (from - at) (take (to - at) (stream C es))) (I.within ep_size from to at es)
   cut from to at [] =
-      record { tail = []; whole_then = ap (λ l. from_mark C (drop (from - at) l)) (take-nil (to - at)) ∙ ap (from_mark C) (drop-nil (from - at)); header = none; stub = refl; steady = idle_steady }
+      record { tail = []; whole_then = ap (λ l. from_mark C (drop (from - at) l)) (take-nil (to - at)) ∙ ap (from_mark C) (drop-nil (from - at)); header = None; stub = refl; steady = idle_steady }
   cut from to at (e ∷ es) = go (dec_le (at + ep_size e) to) (dec_le from at) (cut from to (at + ep_size e) es)
     where
       S : List (Cell C)
@@ -173,7 +173,7 @@ module _ (C : Code) where
           let j_is : from - at ≡ suc j = omega arith in
           move {w' = []} {es' = []} (ap (λ l. from_mark C (drop (from - at) l)) (short p) ∙ ap (λ n. from_mark C (drop n (take (to - at) (cells C e)))) j_is
           ∙ unmarked_ep (to - at) j e) (nothing p)
-          (record { tail = []; whole_then = refl; header = none; stub = refl; steady = idle_steady })
+          (record { tail = []; whole_then = refl; header = None; stub = refl; steady = idle_steady })
 
   -- the TPs that carry a stretch of a stream, read out of step: the EPs wholly within, and perhaps one more header
   pub heard_window : (css : List (List (Cell C))) (es : List (Ep C)) (from to : ℕ) → flat C css ≡ drop from (take to (stream C es))

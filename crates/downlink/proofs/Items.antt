@@ -3,13 +3,13 @@
 use Prim.Native.Nat.{ℕ, ◌+◌, ◌≤◌, ◌<◌}
 use mathlib.Core.Path.{◌≡◌, refl, sym, ap, ◌∙◌, subst⁻¹}
 use mathlib.Core.Bool.{Bool, true, false, ◌&&◌}
-use mathlib.Core.Option.{Option, none}
 use mathlib.Core.List.{List, [], ◌∷◌, ◌++◌, append_assoc, append-nil}
 use native.Mathlib.Omega.{arith}
 use native.Mathlib.Decide.{dec_le}
 use lib.Dec.{leb}
 use lib.ListN.{length, drop, take, length-append}
 use borrow.Author.Tests.{le-leb, eq-eqb}
+use Rattle.std.specs.Prelude.{Option, None}
 use Rattle.receiver.specs.declared.kind.Kind.TheVariants.{Fill, Complete, First, Middle, Last}
 use Rattle.downlink.proofs.plain.Frame.{Code, lost, Event}
 use Rattle.downlink.proofs.plain.Join.{Held, free, held, Took, goes_on, fits, further, finds}
@@ -102,10 +102,10 @@ module _ (C : Code) (room : ℕ) where
         go true ih = ap (λ (d : Does C room). d.1) (does_cons C room Middle s e ws (one C room Middle s e) r.0 refl) ∙ ih (one C room Middle s e).0
         go false ih = ih s
 
-  fits_ok : (n : ℕ) (t : C.T) (d : List C.B) → length d + n ≤ room → fits C room n t d ≡ (held t d, none)
+  fits_ok : (n : ℕ) (t : C.T) (d : List C.B) → length d + n ≤ room → fits C room n t d ≡ (held t d, None)
   fits_ok n t d p = rw (le-leb (length d + n) room p)
 
-  goes_on_ok : (t : C.T) (c : ℕ) (d : List C.B) → C.sort t ≡ c → goes_on C (held t d) c ≡ (held t d, none)
+  goes_on_ok : (t : C.T) (c : ℕ) (d : List C.B) → C.sort t ≡ c → goes_on C (held t d) c ≡ (held t d, None)
   goes_on_ok t c d p = rw (eq-eqb (C.sort t) c p)
 
   inside_on : (t : C.T) (d : List C.B) (h : C.H) → C.sort t ≡ C.content h → length d + C.size h ≤ room

@@ -2,10 +2,10 @@
 use Prim.Native.Nat.{ℕ, ◌+◌}
 use mathlib.Core.Path.{◌≡◌, refl, sym, ap, ◌∙◌}
 use mathlib.Core.Bool.{Bool, true, false, cond}
-use mathlib.Core.Option.{Option, none, some}
 use mathlib.Core.List.{List, [], ◌∷◌, ◌++◌, append_assoc, append-nil}
 use lib.Dec.{leb, eqb}
 use lib.ListN.{length}
+use Rattle.std.specs.Prelude.{Option, None, Some}
 use Rattle.receiver.specs.declared.kind.Kind.{Kind}
 use Rattle.receiver.specs.declared.kind.Kind.TheVariants.{Fill, Reserved, Complete, First, Middle, Last}
 use Rattle.downlink.proofs.plain.Frame.{Code, Event, entered, closed}
@@ -75,7 +75,7 @@ module _ (C : Code) (room : ℕ) where
   goes_quiet free c = refl
   goes_quiet (held t₀ d) c = go (eqb (C.sort t₀) c)
     where
-      go : (t : Bool) → packets C (listed C (cond {A = Took C} t (held t₀ d, none) (free, some (notice 14))).1) ≡ []
+      go : (t : Bool) → packets C (listed C (cond {A = Took C} t (held t₀ d, None) (free, Some (notice 14))).1) ≡ []
       go true = refl
       go false = refl
 
@@ -94,7 +94,7 @@ module _ (C : Code) (room : ℕ) where
   fits_quiet : (n : ℕ) (t : C.T) (d : List C.B) → packets C (listed C (fits C room n t d).1) ≡ []
   fits_quiet n t d = go (leb (length d + n) room)
     where
-      go : (b : Bool) → packets C (listed C (cond {A = Took C} b (held t d, none) (free, some (notice 15))).1) ≡ []
+      go : (b : Bool) → packets C (listed C (cond {A = Took C} b (held t d, None) (free, Some (notice 15))).1) ≡ []
       go true = refl
       go false = refl
 
@@ -149,6 +149,6 @@ module _ (C : Code) (room : ℕ) where
   does_cons k s e es d q r = does_append s (ep_event C e) (ep_events C es) d (does_one k s e q ∙ r)
 
   pub opening_quiet : (s : Held C) (o : Option (C.H × List C.B)) → (does s (opening C o)).1 ≡ []
-  opening_quiet s none = refl
-  opening_quiet s (some (h, d)) =
+  opening_quiet s None = refl
+  opening_quiet s (Some (h, d)) =
       ap (λ (x : Does). x.1) (does_entering s h (feeds C d) ∙ ap (does (inside (C.kind h) s h)) (sym (append-nil (feeds C d))) ∙ does_feeds (inside (C.kind h) s h) d [])

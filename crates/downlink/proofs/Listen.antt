@@ -3,11 +3,11 @@
 use Prim.Native.Nat.{ℕ, suc, ◌+◌, ◌≤◌}
 use mathlib.Core.Path.{◌≡◌, refl, sym, ap, ap₂, ◌∙◌}
 use mathlib.Core.Bool.{Bool, true, false, cond}
-use mathlib.Core.Option.{none, some}
 use mathlib.Core.List.{List, [], ◌∷◌, ◌++◌, append-nil}
 use native.Mathlib.Omega.{arith}
 use lib.Dec.{leb, eqb}
 use lib.ListN.{length, take, drop}
+use Rattle.std.specs.Prelude.{None, Some}
 use Rattle.sender.specs.Drawing as D
 use Rattle.receiver.specs.declared.kind.Kind.{Kind}
 use Rattle.receiver.specs.declared.kind.Kind.TheVariants.{Fill, Reserved, Complete, First, Middle, Last}
@@ -69,7 +69,7 @@ module _ (room : ℕ) where
 
   lone_goes : (s : Held wire) (c : ℕ) → lone (goes_on wire s c) ≡ []
   lone_goes free c = refl
-  lone_goes (held t d) c = lone_cond (eqb t.content c) (held t d, none) (free, some (notice 14)) refl refl
+  lone_goes (held t d) c = lone_cond (eqb t.content c) (held t d, None) (free, Some (notice 14)) refl refl
 
   lone_meets : (k : Kind) (s : Held wire) (c : ℕ) → lone (meets wire k s c) ≡ []
   lone_meets Fill s c = lone_broken s
@@ -80,7 +80,7 @@ module _ (room : ℕ) where
   lone_meets Last s c = lone_goes s c
 
   lone_fits : (n : ℕ) (t : Tag) (d : List ℕ) → lone (fits wire room n t d) ≡ []
-  lone_fits n t d = lone_cond (leb (length d + n) room) (held t d, none) (free, some (notice 15)) refl refl
+  lone_fits n t d = lone_cond (leb (length d + n) room) (held t d, None) (free, Some (notice 15)) refl refl
 
   lone_further : (h : Header) (s : Held wire) → lone (further wire room h s) ≡ []
   lone_further h free = refl

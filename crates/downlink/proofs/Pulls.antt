@@ -3,17 +3,16 @@
 use Prim.Native.Nat.{ℕ, zero, suc, ◌+◌, ◌-◌, ◌/◌, ◌%◌, ◌≤◌}
 use mathlib.Core.Path.{◌≡◌, refl, ap, subst⁻¹}
 use mathlib.Core.Bool.{Bool, true, false, cond}
-use mathlib.Core.Option.{Option, none, some}
 use mathlib.Core.List.{List, [], ◌∷◌}
 use native.Mathlib.Omega.{arith}
 use lib.Dec.{leb, ltb, eqb}
 use lib.ListN.{length, take, drop, length-take}
 use borrow.Author.Tests.{leb-false}
+use Rattle.std.specs.Prelude.{Option, None, Some}
 use Rattle.digits.specs.Digits.{digits}
 use Rattle.digits.proofs.Laws.{length_digits}
 use Rattle.receiver.specs.declared.Place.{Place}
 use Rattle.receiver.specs.declared.walk.Kept.{Kept}
-use Rattle.receiver.specs.declared.walk.Kept.TheVariants.{Empty, Of}
 use Rattle.receiver.specs.declared.walk.Phase.{Phase}
 use Rattle.receiver.specs.declared.walk.Phase.TheVariants.{Lost, Head, Judged, Body}
 use Rattle.receiver.specs.Frame.{Frame, lost, lose, step}
@@ -31,8 +30,8 @@ use Rattle.downlink.proofs.Rests.{FrameOk, need, HeldOk, FindOk, MetOk, Rests, l
 module _ (cap : ℕ) (g : Place) where
   -- what a call among ordinary bytes comes to, in a TP of so many bytes
   abbrev pub PulledOk : ℕ → Option (Finding wire) → Pulled wire → Type 0
-  PulledOk len none p = (p.todo ≡ []) × FrameOk p.frame × HeldOk cap g (need p.frame) p.held p.room
-  PulledOk len (some x) p = FindOk cap g x p.room × Rests cap g p.frame p.todo p.held p.room × (p.at ≤ len)
+  PulledOk len None p = (p.todo ≡ []) × FrameOk p.frame × HeldOk cap g (need p.frame) p.held p.room
+  PulledOk len (Some x) p = FindOk cap g x p.room × Rests cap g p.frame p.todo p.held p.room × (p.at ≤ len)
 
   upto_ok : (len : ℕ) (x : Met wire) (f : Frame wire) (at : ℕ) (on : Held wire → List ℕ → Pulled wire) → MetOk cap g f x → at ≤ len
       → ((s : Held wire) (m : List ℕ) → FrameOk f → HeldOk cap g (need f) s m → length m ≡ cap → PulledOk len (on s m).find (on s m))
@@ -63,20 +62,20 @@ module _ (cap : ℕ) (g : Place) where
   headed_ok e [] p b = (tt, refl)
   headed_ok e (d ∷ ds) p b = ((omega arith, omega arith, b), refl)
 
-  pub kept_ok : (k : Kept) (n : ℕ) (m : List ℕ) → length m ≡ cap → Roomy cap k n → HeldOk cap g n (held_of k m) m
-  kept_ok Empty n m l p = tt
-  kept_ok (Of c sum b j) n m l p =
-      let e : length (take j m) ≡ j = omega (arith, length-take j m) in
+  pub kept_ok : (k : Option Kept) (n : ℕ) (m : List ℕ) → length m ≡ cap → Roomy cap k n → HeldOk cap g n (held_of k m) m
+  kept_ok None n m l p = tt
+  kept_ok (Some k) n m l p =
+      let e : length (take k.len m) ≡ k.len = omega (arith, length-take k.len m) in
       (omega arith, ap (λ (i : ℕ). take i m) e)
 
-  head_ok : (e : Place) (n w : ℕ) (k : Kept) (m : List ℕ) → length m ≡ cap → n ≤ 5 → Roomy cap k 0
+  head_ok : (e : Place) (n w : ℕ) (k : Option Kept) (m : List ℕ) → length m ≡ cap → n ≤ 5 → Roomy cap k 0
       → FrameOk (headed e (digits n w)) × HeldOk cap g (need (headed e (digits n w))) (held_of k m) m
   head_ok e n w k m l p q =
       let f = headed_ok e (digits n w) (omega (arith, length_digits n w)) (digits_bytes n w) in
       (f.0, subst⁻¹ (λ (i : ℕ). HeldOk cap g i (held_of k m) m) f.1 (kept_ok k 0 m l q))
 
   -- between calls of one TP's ordinary bytes
-  pub phase_met : (e : Place) (p : Phase) (k : Kept) (m : List ℕ) → length m ≡ cap → Fine cap p k
+  pub phase_met : (e : Place) (p : Phase) (k : Option Kept) (m : List ℕ) → length m ≡ cap → Fine cap p k
       → MetOk cap g (frame_of e p) (meet wire cap (held_of k m) m (todo_of e p))
   phase_met e Lost k m l q = (tt, kept_ok k 0 m l q, l)
   phase_met e (Head n w) k m l q = let h = head_ok e n w k m l q.0 q.2 in (h.0, h.1, l)
@@ -84,7 +83,7 @@ module _ (cap : ℕ) (g : Place) where
   phase_met e (Body h n) k m l q = ending_ok cap g (ep_at e h) n (held_of k m) m (kept_ok k n m l q) l
 
   -- before a TP's ordinary bytes
-  pub phase_ok : (e : Place) (p : Phase) (k : Kept) (m : List ℕ) → length m ≡ cap → Settled p → Fine cap p k
+  pub phase_ok : (e : Place) (p : Phase) (k : Option Kept) (m : List ℕ) → length m ≡ cap → Settled p → Fine cap p k
       → FrameOk (frame_of e p) × HeldOk cap g (need (frame_of e p)) (held_of k m) m
   phase_ok e Lost k m l s q = (tt, kept_ok k 0 m l q)
   phase_ok e (Head n w) k m l s q = head_ok e n w k m l q.0 q.2
@@ -114,8 +113,8 @@ module _ (cap : ℕ) (g : Place) where
     -- e is the TP's place 0
     module _ (e : Place) (f : Frame wire) (ok : FrameOk f) (h : HeldOk cap g (need f) s m) where
       judge_ok : (o : Option ℕ) (n : ℕ) (bs : List (Place × ℕ)) → n ≤ length bs → StartOk (judge wire o e f n bs) bs
-      judge_ok none n bs p = losing 12 (P.since wire e f) n bs p
-      judge_ok (some k) n bs p = go (eqb k n)
+      judge_ok None n bs p = losing 12 (P.since wire e f) n bs p
+      judge_ok (Some k) n bs p = go (eqb k n)
         where
           go : (b : Bool) → StartOk (agree wire b e f n bs) bs
           go true = ((ok, h, l), omega arith)

@@ -1,12 +1,12 @@
 -- What the receiver reads in headers and end bytes that are damaged within the limits. Assumes nothing.
 use mathlib.Core.Path.{◌≡◌, refl, ap, ◌∙◌, subst, subst⁻¹}
-use mathlib.Core.Option.{some}
 use mathlib.Core.List.{List, ◌++◌, append_assoc}
 use Prim.Native.Nat.{ℕ, ◌+◌, ◌*◌, ◌/◌, ◌%◌, ◌^◌, ◌≤◌, ◌<◌}
 use native.Mathlib.Omega.{arith}
 use lib.ListN.{length, take, drop, length-take, length-drop}
 use lib.Seq.{take_at, drop_at, take-add}
 use borrow.Author.Tests.{le-leb, ne_eqb}
+use Rattle.std.specs.Prelude.{Some}
 use Rattle.digits.specs.Digits.{number}
 use Rattle.digits.proofs.Laws.{number_append, number_lt}
 use Rattle.golay.specs.Golay.{code_word, distance}
@@ -57,7 +57,7 @@ module _ (c f : ℕ) (d : List ℕ) where
       ∙ ap (take 3) (drop_at (word (first_number c f n)) (word (n % 4096) ++ d) 3 (word_length (first_number c f n)))
       ∙ take_at (word (n % 4096)) d 3 (word_length (n % 4096))
 
-  pub header_reads : (bs : List ℕ) → c < 16 → f < 4 → n < 65536 → 6 ≤ length bs → HeadNear (ep c f d) bs → header_of (take 6 bs) ≡ some (head_of c f n (flips_in c f d bs))
+  pub header_reads : (bs : List ℕ) → c < 16 → f < 4 → n < 65536 → 6 ≤ length bs → HeadNear (ep c f d) bs → header_of (take 6 bs) ≡ Some (head_of c f n (flips_in c f d bs))
   unfolding header_of
   header_reads bs p q s six near =
       let a : List ℕ = take 3 bs in

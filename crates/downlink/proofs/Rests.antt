@@ -3,20 +3,19 @@
 use Prim.Native.Nat.{ℕ, zero, suc, ◌+◌, ◌-◌, ◌≤◌, ◌<◌}
 use mathlib.Core.Path.{◌≡◌, refl, ap, ◌∙◌}
 use mathlib.Core.Bool.{Bool, true, false, cond}
-use mathlib.Core.Option.{Option, none, some}
 use mathlib.Core.List.{List, [], ◌∷◌, ◌++◌}
 use native.Mathlib.Omega.{arith}
 use lib.Dec.{leb, eqb}
 use lib.ListN.{length, take, set, length-append, length-set}
 use lib.Seq.{take-suc-set}
 use borrow.Author.Tests.{leb-true}
+use Rattle.std.specs.Prelude.{Option, None, Some}
 use Rattle.digits.specs.Digits.{number}
 use Rattle.digits.proofs.Laws.{digits_number, number_lt}
 use Rattle.receiver.specs.declared.Place.{Place}
 use Rattle.receiver.specs.declared.kind.Kind.{Kind}
 use Rattle.receiver.specs.declared.kind.Kind.TheVariants.{Fill, Reserved, Complete, First, Middle, Last}
 use Rattle.receiver.specs.declared.walk.Kept.{Kept}
-use Rattle.receiver.specs.declared.walk.Kept.TheVariants.{Empty}
 use Rattle.receiver.specs.declared.walk.Phase.{Phase}
 use Rattle.receiver.specs.declared.walk.Phase.TheVariants.{Lost, Head, Judged, Body}
 use Rattle.receiver.specs.Frame.{Frame, lost, idle, head, body, Event, lose, entered, fed, within, ending, whole, step}
@@ -43,8 +42,8 @@ began_of g idle = g
 began_of g (head p k hs) = p
 began_of g (body h k) = h.at
 
-abbrev pub kept_of : Held wire → Kept
-kept_of free = Empty
+abbrev pub kept_of : Held wire → Option Kept
+kept_of free = None
 kept_of (held t d) = kept_as t (length d)
 
 -- bytes of a header: some, and with those that are missing after the next one six
@@ -165,7 +164,7 @@ module _ (cap : ℕ) (g : Place) where
   fits_ok : (h : Ep) (c : Tag) (d m : List ℕ) → length d ≤ cap → take (length d) m ≡ d → length m ≡ cap → Enters h m (fits wire cap h c d)
   fits_ok h c d m q e l = go (leb (length d + h.header.size) cap) refl
     where
-      go : (b : Bool) → leb (length d + h.header.size) cap ≡ b → Enters h m (cond b (held c d, none) (free, some (notice 15 h.at)))
+      go : (b : Bool) → leb (length d + h.header.size) cap ≡ b → Enters h m (cond b (held c d, None) (free, Some (notice 15 h.at)))
       go true t = ending_ok h h.header.size (held c d) m (leb-true (length d + h.header.size) cap t, e) l
       go false t = (tt, bodied h h.header.size free m tt, l)
 
@@ -198,7 +197,7 @@ module _ (cap : ℕ) (g : Place) where
   goes_ok h free m ok l = (tt, judged h free m tt, l)
   goes_ok h (held t d) m ok l = go (eqb t.content h.header.content)
     where
-      go : (b : Bool) → Opens h m (cond b (held t d, none) (free, some (notice 14 h.at)))
+      go : (b : Bool) → Opens h m (cond b (held t d, None) (free, Some (notice 14 h.at)))
       go true = entered_ok h (held t d) m ok l
       go false = (tt, judged h free m tt, l)
 
@@ -235,8 +234,8 @@ module _ (cap : ℕ) (g : Place) where
 
   whole_ok : (p : Place) (o : Option Ep) (s : Held wire) (m : List ℕ) → HeldOk 0 s m → length m ≡ cap
       → MetOk (whole wire p o).0 (meet wire cap s m (whole wire p o).1)
-  whole_ok p none s m ok l = lose_ok lost 12 p s m tt l
-  whole_ok p (some h) s m ok l = meets_ok (wire.kind h) h s m ok l
+  whole_ok p None s m ok l = lose_ok lost 12 p s m tt l
+  whole_ok p (Some h) s m ok l = meets_ok (wire.kind h) h s m ok l
 
   pub step_ok : (f : Frame wire) (b : Place × ℕ) (s : Held wire) (m : List ℕ) → b.1 < 256 → FrameOk f → HeldOk (need f) s m → length m ≡ cap
       → MetOk (step wire f b).0 (meet wire cap s m (step wire f b).1)

@@ -3,13 +3,13 @@ use Prim.Native.Nat.{ℕ, zero, suc, ◌+◌, ◌-◌, ◌*◌, ◌/◌, ◌%◌
 use mathlib.Core.Path.{◌≡◌, sym, ap, ap₂, ◌∙◌, subst}
 use mathlib.Core.Bool.{Bool, true, false, cond}
 use mathlib.Core.Logic.{⊎_elim}
-use mathlib.Core.Option.{some}
 use mathlib.Core.List.{List, [], ◌∷◌, ◌++◌}
 use native.Mathlib.Omega.{arith}
 use lib.Dec.{leb, ltb, eqb}
 use lib.ListN.{length, take, drop, get_or, length-append, length-drop}
 use lib.Seq.{take_at, drop-drop}
 use borrow.Author.Tests.{lt-leb, le-leb, ne_eqb, eq-eqb, lt-ltb, le-ltb}
+use Rattle.std.specs.Prelude.{Some}
 use Rattle.digits.specs.Digits.{number}
 use Rattle.golay.specs.declared.End.{End}
 use Rattle.golay.specs.Answers.{end_of}
@@ -19,7 +19,6 @@ use Rattle.wire.specs.Reading.{header_of, tp_number_in}
 use Rattle.wire.proofs.Laws.{word_length, ep_length, tp_header_length, tp_word_back}
 use Rattle.sender.specs.Drawing as D
 use Rattle.sender.specs.Drawing.{offset}
-use Rattle.receiver.specs.declared.low.Llep.TheVariants.{Whole}
 use Rattle.downlink.proofs.plain.Frame.{Frame, Out}
 use Rattle.downlink.proofs.plain.Forecast.{Start, start, outset}
 use Rattle.downlink.proofs.plain.Join.{Finding, low}
@@ -48,38 +47,38 @@ lows_found (p ∷ ps) bs = low (begin_of (low_head p bs)) (take (length p.1) (dr
 -- ---- the low-latency part
 
 module _ (P : ℕ) (top : P ≤ 2047) where
-  closes : (h : Header) (ps : List Packet) (b : ℕ) → NearEnd (cond (D.present (lleps ps)) 0xFF 0x00) b → ended (end_of b) h ≡ Whole h (D.present (lleps ps))
+  closes : (h : Header) (ps : List Packet) (b : ℕ) → NearEnd (cond (D.present (lleps ps)) 0xFF 0x00) b → ended (end_of b) h ≡ Some (h, D.present (lleps ps))
   closes h [] b near = ap (λ (e : End). ended e h) (end_last b near)
   closes h (p ∷ ps) b near = ap (λ (e : End). ended e h) (end_more b near)
 
   llep_is : (p : Packet) (ps : List Packet) (bs : List ℕ) → LowOk P top p → LlepsNear (lleps (p ∷ ps)) bs → 7 + length p.1 ≤ length bs
-      → llep bs ≡ Whole (low_head p bs) (D.present (lleps ps))
+      → llep bs ≡ Some (low_head p bs, D.present (lleps ps))
   unfolding llep sized
   llep_is p ps bs ok near enough =
       let c : ℕ = p.0 in
       let n : ℕ = length p.1 in
       let c₆ : c ≤ 6 = ok.1 in
       let m : 7 + n ≤ P = ok.2 in
-      let e : header_of (take 6 bs) ≡ some (head_of c 0 n (flips_in c 0 p.1 bs)) = header_reads c 0 p.1 bs (omega arith) (omega arith) (omega arith) (omega arith) near.0 in
+      let e : header_of (take 6 bs) ≡ Some (head_of c 0 n (flips_in c 0 p.1 bs)) = header_reads c 0 p.1 bs (omega arith) (omega arith) (omega arith) (omega arith) near.0 in
       let end : NearEnd (cond (D.present (lleps ps)) 0xFF 0x00) (get_or bs (6 + n) 0) =
       subst (λ (k : ℕ). NearEnd (cond (D.present (lleps ps)) 0xFF 0x00) (get_or bs k 0)) (ep_length c 0 p.1) near.1 in
       rw (le-ltb (length bs) 7 (omega arith), e, le-ltb (length bs) (7 + n) enough) (closes (low_head p bs) ps (get_or bs (6 + n) 0) end)
 
   walk_one : (k : ℕ) (p : Packet) (ps : List Packet) (bs : List ℕ) → LowOk P top p → LlepsNear (lleps (p ∷ ps)) bs → 7 + length p.1 ≤ length bs
       → walk (suc k) bs ≡ ahead (low (begin_of (low_head p bs)) (take (length p.1) (drop 6 bs)) ∷ [])
-      (cond (D.present (lleps ps)) (walk k (drop (7 + length p.1) bs)) (record { finds = []; behind = some (drop (7 + length p.1) bs) }))
+      (cond (D.present (lleps ps)) (walk k (drop (7 + length p.1) bs)) (record { finds = []; behind = Some (drop (7 + length p.1) bs) }))
   unfolding walk
   walk_one k p ps bs ok near enough =
       rw (llep_is p ps bs ok near enough, kind_complete p.0 (length p.1) (low_head p bs).flips ok.0 ok.1)
 
   walks : (k : ℕ) (p : Packet) (ps : List Packet) (bs : List ℕ) → LowsOk P top (p ∷ ps) → LlepsNear (lleps (p ∷ ps)) bs
       → length (D.part (lleps (p ∷ ps))) ≤ length bs → length (D.part (lleps (p ∷ ps))) ≤ k
-      → walk k bs ≡ record { finds = lows_found (p ∷ ps) bs; behind = some (drop (length (D.part (lleps (p ∷ ps)))) bs) }
+      → walk k bs ≡ record { finds = lows_found (p ∷ ps) bs; behind = Some (drop (length (D.part (lleps (p ∷ ps)))) bs) }
   walks zero p ps bs ok near m q = absurd (omega (arith, part_cons P top p ps))
   walks (suc k) p [] bs ok near m q =
       let n_is : 7 + length p.1 ≡ length (D.part (lleps (p ∷ []))) = omega (arith, part_cons P top p [], Y.no_part P top) in
       walk_one k p [] bs ok.0 near (omega arith)
-      ∙ ap (λ (n : ℕ). record { finds = lows_found (p ∷ []) bs; behind = some (drop n bs) }) n_is
+      ∙ ap (λ (n : ℕ). record { finds = lows_found (p ∷ []) bs; behind = Some (drop n bs) }) n_is
   walks (suc k) p (r ∷ ps) bs ok near m q =
       let n : ℕ = 7 + length p.1 in
       let more = part_cons P top p (r ∷ ps) in
@@ -89,12 +88,12 @@ module _ (P : ℕ) (top : P ≤ 2047) where
       walk_one k p (r ∷ ps) bs ok.0 near (omega arith)
       ∙ ap (ahead (low (begin_of (low_head p bs)) (take (length p.1) (drop 6 bs)) ∷ []))
       (walks k r ps (drop n bs) ok.1 (subst (λ (z : ℕ). LlepsNear (lleps (r ∷ ps)) (drop z bs)) s near.2) (omega (arith, length-drop n bs)) (omega arith)
-      ∙ ap (λ x. record { finds = lows_found (r ∷ ps) (drop n bs); behind = some x }) (drop-drop (length (D.part (lleps (r ∷ ps)))) n bs ∙ ap (λ (z : ℕ). drop z bs) n_is))
+      ∙ ap (λ x. record { finds = lows_found (r ∷ ps) (drop n bs); behind = Some x }) (drop-drop (length (D.part (lleps (r ∷ ps)))) n bs ∙ ap (λ (z : ℕ). drop z bs) n_is))
 
   pub low_part_lem : (ps : List Packet) (bs : List ℕ) → LowsOk P top ps → LlepsNear (lleps ps) bs → length (D.part (lleps ps)) ≤ length bs
-      → low_part_if (D.present (lleps ps)) bs ≡ record { finds = lows_found ps bs; behind = some (drop (length (D.part (lleps ps))) bs) }
+      → low_part_if (D.present (lleps ps)) bs ≡ record { finds = lows_found ps bs; behind = Some (drop (length (D.part (lleps ps))) bs) }
   unfolding low_part
-  low_part_lem [] bs ok near m = ap (λ (n : ℕ). record { finds = []; behind = some (drop n bs) }) (sym (Y.no_part P top))
+  low_part_lem [] bs ok near m = ap (λ (n : ℕ). record { finds = []; behind = Some (drop n bs) }) (sym (Y.no_part P top))
   low_part_lem (p ∷ ps) bs ok near m = walks (suc (length bs)) p ps bs ok near m (omega arith)
 
 -- ---- the offset leads to the first EP
@@ -176,7 +175,7 @@ module _ (size str F P room : ℕ) (top : P ≤ 2047) (size_is : size ≡ 4 + P)
   unfolding tp_header
   word_is = ap (λ z. take 3 (drop 1 z)) is.bytes_are ∙ take_at (word (offset_number flag o)) rest 3 (word_length (offset_number flag o))
 
-  pub word_reads : tp_number_in (number 0 (take 3 (drop 1 r))) ≡ some (offset_number flag o)
+  pub word_reads : tp_number_in (number 0 (take 3 (drop 1 r))) ≡ Some (offset_number flag o)
   word_reads =
       tp_word_back (number 0 (take 3 (drop 1 r))) flag o
       (near_word (offset_number flag o) (take 3 (drop 1 r)) (subst (λ (z : List ℕ). Near z (take 3 (drop 1 r))) word_is near.2))
@@ -194,16 +193,16 @@ module _ (size str F P room : ℕ) (top : P ≤ 2047) (size_is : size ≡ 4 + P)
   fits : g + length l.own ≤ 2047
   fits = omega (arith, is.full)
 
-  behind_is : (f : Frame wire) → behind (lows_found now (drop 4 r)) (some (drop g (drop 4 r))) f o (drop 4 r) ≡ seen f
+  behind_is : (f : Frame wire) → behind (lows_found now (drop 4 r)) (Some (drop g (drop 4 r))) f o (drop 4 r) ≡ seen f
   behind_is f =
       let bs_is : drop g (drop 4 r) ≡ own = drop-drop g 4 r in
       let gone : length (drop 4 r) - length own ≡ g = omega (arith, length-drop 4 r, length_is, own_length, is.full) in
       let n = own_length in
-      ap (λ z. behind (lows_found now (drop 4 r)) (some z) f o (drop 4 r)) bs_is
+      ap (λ z. behind (lows_found now (drop 4 r)) (Some z) f o (drop 4 r)) bs_is
       ∙ ap₂ (λ (x y : ℕ). about (outset wire f (offset g a x) y own)) (sym own_length) gone
       ∙ ap (λ (x : Start wire). about x) (outset_is f g a own (omega (arith, fits)) (omega (arith, before_most l.own)))
 
-  worded_is : (f : Frame wire) → worded (some (offset_number flag o)) f (drop 4 r) ≡ seen f
+  worded_is : (f : Frame wire) → worded (Some (offset_number flag o)) f (drop 4 r) ≡ seen f
   worded_is f =
       let says = word_says flag o (offset_small g a (length l.own) fits) in
       let lows : LlepsNear (lleps now) (drop 4 r) = subst (λ (z : List (List ℕ)). LlepsNear z (drop 4 r)) is.lleps_are near.3 in

@@ -3,10 +3,10 @@
 use Prim.Native.Nat.{ℕ, zero, suc, ◌+◌, ◌-◌}
 use mathlib.Core.Path.{◌≡◌, refl, sym, ap, ap₂, ◌∙◌}
 use mathlib.Core.Bool.{Bool, true, false, cond}
-use mathlib.Core.Option.{Option, none, some}
 use mathlib.Core.List.{List, [], ◌∷◌, ◌++◌, map, map-append}
 use lib.Dec.{eqb, leb, ltb}
 use lib.ListN.{length, drop, length-map}
+use Rattle.std.specs.Prelude.{Option, None, Some}
 use Rattle.wire.specs.declared.Header.{Header}
 use Rattle.wire.specs.Reading.{header_of}
 use Rattle.receiver.specs.declared.Place.{Place}
@@ -64,8 +64,8 @@ kept free = J.free
 kept (held t d) = J.held (tag t) d
 
 abbrev found : Option (Finding wire) → Option (J.Finding L.wire)
-found none = none
-found (some f) = some (finding f)
+found None = None
+found (Some f) = Some (finding f)
 
 abbrev took : Took wire → J.Took L.wire
 took o = (kept o.0, found o.1)
@@ -86,8 +86,8 @@ ending_is h zero = refl
 ending_is h (suc n) = refl
 
 whole_is : (p : Place) (o : Option Header) → F.whole L.wire o ≡ out (whole wire p (ep_if p o))
-whole_is p none = refl
-whole_is p (some h) =
+whole_is p None = refl
+whole_is p (Some h) =
     ap₂ (λ (f : F.Frame L.wire) (es : List (F.Event L.wire)). (f, F.opened h ∷ F.entered h ∷ es))
     (within_is (ep_at p h) h.size) (ending_is (ep_at p h) h.size)
 
@@ -119,11 +119,11 @@ look_is (head p n hs) a b e = e
 look_is (body h n) a b e = e
 
 later_is : (o : Option ℕ) → P.later L.wire o ≡ N.later wire o
-later_is none = refl
-later_is (some n) = refl
+later_is None = refl
+later_is (Some n) = refl
 
 pub foretold_is : (f : Frame wire) (xs : List (Place × ℕ)) → P.foretold L.wire (frame f) (bytes xs) ≡ foretold wire f xs
-foretold_is f [] = look_is f (some 0) (some 0) refl
+foretold_is f [] = look_is f (Some 0) (Some 0) refl
 foretold_is f (b ∷ xs) =
     look_is f (P.later L.wire (P.foretold L.wire (F.step L.wire (frame f) b.1).0 (bytes xs))) (N.later wire (foretold wire (step wire f b).0 xs))
     (ap (λ (o : F.Out L.wire). P.later L.wire (P.foretold L.wire o.0 (bytes xs))) (step_is f b)
@@ -142,8 +142,8 @@ resume_is es n xs =
 
 judge_is : (o : Option ℕ) (p : Place) (f : Frame wire) (n : ℕ) (xs : List (Place × ℕ))
     → P.judge L.wire o (frame f) n (bytes xs) ≡ begun (judge wire o p f n xs)
-judge_is none p f n xs = resume_is (lose 12 (N.since wire p f) ∷ []) n xs
-judge_is (some m) p f n xs = go (eqb m n)
+judge_is None p f n xs = resume_is (lose 12 (N.since wire p f) ∷ []) n xs
+judge_is (Some m) p f n xs = go (eqb m n)
   where
     go : (b : Bool) → P.agree L.wire b (frame f) n (bytes xs) ≡ begun (agree wire b p f n xs)
     go true = refl
@@ -217,7 +217,7 @@ cond_is false x y = refl
 
 goes_on_is : (h : Ep) (s : Held wire) → J.goes_on L.wire (kept s) h.header.content ≡ took (goes_on wire h s)
 goes_on_is h free = refl
-goes_on_is h (held t d) = cond_is (eqb t.content h.header.content) (held t d, none) (free, some (notice 14 h.at))
+goes_on_is h (held t d) = cond_is (eqb t.content h.header.content) (held t d, None) (free, Some (notice 14 h.at))
 
 meets_is : (k : Kind) (h : Ep) (s : Held wire) → J.meets L.wire k (kept s) h.header.content ≡ took (meets wire k h s)
 meets_is Fill h s = broken_is h s
@@ -244,12 +244,12 @@ finish_is Middle s = refl
 finish_is Last s = handed_is s
 
 listed_is : (o : Option (Finding wire)) → J.listed L.wire (found o) ≡ map finding (listed wire o)
-listed_is none = refl
-listed_is (some f) = refl
+listed_is None = refl
+listed_is (Some f) = refl
 
 module _ (room : ℕ) where
   fits_is : (h : Ep) (t : Tag) (d : List ℕ) → J.fits L.wire room h.header.size (tag t) d ≡ took (fits wire room h t d)
-  fits_is h t d = cond_is (leb (length d + h.header.size) room) (held t d, none) (free, some (notice 15 h.at))
+  fits_is h t d = cond_is (leb (length d + h.header.size) room) (held t d, None) (free, Some (notice 15 h.at))
 
   further_is : (h : Ep) (s : Held wire) → J.further L.wire room h.header (kept s) ≡ took (further wire room h s)
   further_is h free = refl
@@ -268,7 +268,7 @@ module _ (room : ℕ) where
   take_in_is s gap = refl
   take_in_is s (opened h) = meets_is (kind_of h.header) h s
   take_in_is s (entered h) = admit_is (kind_of h.header) h s
-  take_in_is s (fed b) = ap (λ (k : J.Held L.wire). (k, none)) (grown_is s b)
+  take_in_is s (fed b) = ap (λ (k : J.Held L.wire). (k, None)) (grown_is s b)
   take_in_is s (closed h) = finish_is (kind_of h.header) s
 
   pub holding_is : (s : Held wire) (es : List (Event wire)) → J.holding L.wire room (kept s) (map event es) ≡ kept (holding wire room s es)

@@ -2,10 +2,10 @@
 use Prim.Native.Nat.{ℕ, zero, suc, ◌+◌, ◌-◌, ◌%◌}
 use mathlib.Core.Path.{◌≡◌, refl, sym, ap, ap₂, ◌∙◌}
 use mathlib.Core.Bool.{Bool, true, false, cond}
-use mathlib.Core.Option.{Option, none, some}
 use mathlib.Core.List.{List, [], ◌∷◌, ◌++◌, map, map-append}
 use lib.Dec.{eqb, leb}
 use lib.ListN.{length, take, drop, get_or}
+use Rattle.std.specs.Prelude.{Option, None, Some}
 use Rattle.digits.specs.Digits.{number}
 use Rattle.wire.specs.declared.Header.{Header}
 use Rattle.wire.specs.Reading.{tp_number_in, stream_of, version_of}
@@ -14,8 +14,6 @@ use Rattle.receiver.specs.declared.Stamp.{Stamp}
 use Rattle.receiver.specs.declared.stages.Stamps.{Stamps}
 use Rattle.receiver.specs.declared.kind.Kind.{Kind}
 use Rattle.receiver.specs.declared.kind.Kind.TheVariants.{Fill, Reserved, Complete, First, Middle, Last}
-use Rattle.receiver.specs.declared.low.Llep.{Llep}
-use Rattle.receiver.specs.declared.low.Llep.TheVariants.{Broken, Whole}
 use Rattle.receiver.specs.Place.{placed, place_at, start_of}
 use Rattle.receiver.specs.Kind.{kind_of}
 use Rattle.receiver.specs.Frame.{Frame}
@@ -49,15 +47,15 @@ cond_is : (b : Bool) (x : L.Part) (p q : Part) → x ≡ part p → cond b x (pa
 cond_is true x p q e = e
 cond_is false x p q e = refl
 
-walked_is : (l : Llep) (t : Stamp) (i : ℕ) (bs : List ℕ) (plain : List ℕ → L.Part) (on : ℕ → List ℕ → Part)
+walked_is : (l : Option (Header × Bool)) (t : Stamp) (i : ℕ) (bs : List ℕ) (plain : List ℕ → L.Part) (on : ℕ → List ℕ → Part)
     → ((j : ℕ) (rest : List ℕ) → plain rest ≡ part (on j rest)) → L.walked l bs plain ≡ part (walked l t i bs on)
-walked_is Broken t i bs plain on e = refl
-walked_is (Whole h more) t i bs plain on e =
+walked_is None t i bs plain on e = refl
+walked_is (Some (h, more)) t i bs plain on e =
     ap₂ L.ahead (given_is (kind_of h) (place_at t i) h bs)
     (cond_is more (plain (drop (7 + h.size) bs)) (on (i + 7 + h.size) (drop (7 + h.size) bs))
-    (record { finds = []; behind = some (drop (7 + h.size) bs); from = i + 7 + h.size }) (e (i + 7 + h.size) (drop (7 + h.size) bs)))
+    (record { finds = []; behind = Some (drop (7 + h.size) bs); from = i + 7 + h.size }) (e (i + 7 + h.size) (drop (7 + h.size) bs)))
     ∙ ahead_is (given (kind_of h) (place_at t i) h bs)
-    (cond more (on (i + 7 + h.size) (drop (7 + h.size) bs)) (record { finds = []; behind = some (drop (7 + h.size) bs); from = i + 7 + h.size }))
+    (cond more (on (i + 7 + h.size) (drop (7 + h.size) bs)) (record { finds = []; behind = Some (drop (7 + h.size) bs); from = i + 7 + h.size }))
 
 walk_is : (k : ℕ) (t : Stamp) (i : ℕ) (bs : List ℕ) → L.walk k bs ≡ part (walk k t i bs)
 unfolding L.walk walk
@@ -76,8 +74,8 @@ plainly h = record { lows = map finding h.lows; told = map event h.told; frame =
 
 behind_is : (p : Part) (o : Option (List ℕ)) (t : Stamp) (f : Frame wire) (offset : ℕ) (payload : List ℕ)
     → T.behind (map finding p.finds) o (frame f) offset payload ≡ plainly (heard_by f (behind p o t offset payload))
-behind_is p none t f offset payload = refl
-behind_is p (some bs) t f offset payload =
+behind_is p None t f offset payload = refl
+behind_is p (Some bs) t f offset payload =
     let gone = length payload - length bs in
     ap (λ (o : F.Out L.wire). record { lows = map finding p.finds; told = o.1; frame = o.0 })
     (ap (λ (l : List ℕ). read_on (P.outset L.wire (frame f) offset gone l) l) (sym (bytes_placed t p.from bs))
@@ -85,8 +83,8 @@ behind_is p (some bs) t f offset payload =
 
 worded_is : (o : Option ℕ) (t : Stamp) (f : Frame wire) (payload : List ℕ)
     → T.worded o (frame f) payload ≡ plainly (heard_by f (worded o t payload))
-worded_is none t f payload = refl
-worded_is (some w) t f payload =
+worded_is None t f payload = refl
+worded_is (Some w) t f payload =
     let p = low_part_if (leb 2048 w) t payload in
     ap (λ (x : L.Part). T.behind x.finds x.behind (frame f) (w % 2048) payload) (low_part_is (leb 2048 w) t payload)
     ∙ behind_is p p.behind t f (w % 2048) payload

@@ -3,10 +3,10 @@
 use Prim.Native.Nat.{ℕ, zero, suc}
 use mathlib.Core.Path.{◌≡◌, refl, sym, ap, ◌∙◌, subst⁻¹}
 use mathlib.Core.Bool.{true, false}
-use mathlib.Core.Option.{some}
 use mathlib.Core.List.{List, [], ◌∷◌, ◌++◌, append_assoc, append-nil}
 use native.Mathlib.Omega.{arith}
 use lib.ListN.{length}
+use Rattle.std.specs.Prelude.{Some}
 use Rattle.downlink.proofs.plain.Frame.{Code, Frame, idle, head, body, Event, opened, entered, fed, closed, Out, within, ending, whole, after, events}
 use Rattle.downlink.proofs.Window.{Cell, bytes, run, bytes_append, after_append, events_append, Tracks}
 
@@ -18,7 +18,7 @@ module _ (C : Code) where
     pub more : List C.B
     pub load : List C.B
     pub six : length more ≡ 5
-    pub reads : C.decode (first ∷ more) ≡ some h
+    pub reads : C.decode (first ∷ more) ≡ Some h
     pub sized : length load ≡ C.size h
 
   abbrev pub plain : List C.B → List (Cell C)

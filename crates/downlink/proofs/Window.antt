@@ -3,11 +3,11 @@
 use Prim.Native.Nat.{ℕ, suc}
 use mathlib.Core.Path.{◌≡◌, refl, sym, ap, ◌∙◌, subst}
 use mathlib.Core.Bool.{Bool, true, false, cond}
-use mathlib.Core.Option.{some}
 use mathlib.Core.List.{List, [], ◌∷◌, ◌++◌, append_assoc}
 use native.Mathlib.Omega.{arith}
 use borrow.Author.Tests.{eq-eqb}
 use lib.ListN.{drop}
+use Rattle.std.specs.Prelude.{Some}
 use Rattle.downlink.proofs.plain.Frame.{Code, Frame, lost, idle, head, body, Event, Out, step, after, events}
 use Rattle.downlink.proofs.plain.Forecast.{Phase, off, between, inside, phase, foretold, Start, upon, judge, set_out, start}
 
@@ -88,7 +88,7 @@ module _ (C : Code) where
   tracks_right s [] ys t = t
   tracks_right s (x ∷ xs) ys t = tracks_right (step C s x.1).0 xs ys t.1
 
-  foretold_tracks : (s : Frame C) (cs : List Cell) → Tracks s cs → foretold C s (bytes cs) ≡ some (before cs)
+  foretold_tracks : (s : Frame C) (cs : List Cell) → Tracks s cs → foretold C s (bytes cs) ≡ Some (before cs)
   foretold_tracks lost [] t = absurd (t refl)
   foretold_tracks idle [] t = refl
   foretold_tracks (head k hs) [] t = refl
@@ -99,10 +99,10 @@ module _ (C : Code) where
   abbrev as_is : Frame C → Start C
   as_is s = record { told = []; frame = s; past = 0 }
 
-  agreed : (s : Frame C) (n : ℕ) (bs : List C.B) → foretold C s bs ≡ some n → judge C (foretold C s bs) s n bs ≡ as_is s
+  agreed : (s : Frame C) (n : ℕ) (bs : List C.B) → foretold C s bs ≡ Some n → judge C (foretold C s bs) s n bs ≡ as_is s
   agreed s n bs e = rw (e, eq-eqb n n refl)
 
-  set_out_in_step : (p : Phase) (s : Frame C) (n : ℕ) (bs : List C.B) → (p ≡ off → ⊥) → foretold C s bs ≡ some n → set_out C p s n bs ≡ as_is s
+  set_out_in_step : (p : Phase) (s : Frame C) (n : ℕ) (bs : List C.B) → (p ≡ off → ⊥) → foretold C s bs ≡ Some n → set_out C p s n bs ≡ as_is s
   set_out_in_step off s n bs h e = absurd (h refl)
   set_out_in_step between s n bs h e = agreed s n bs e
   set_out_in_step inside s n bs h e = agreed s n bs e

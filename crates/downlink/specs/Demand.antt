@@ -1,8 +1,7 @@
 -- Demand 3: the right packets, from anywhere, under damage. Assumes nothing.
-use Rattle.std.specs.Prelude.{◌≡◌, Bool, ◌&&◌, List, [], ◌∷◌, map, ℕ, ◌+◌, ◌≤◌, leb, length, take, drop}
+use Rattle.std.specs.Prelude.{◌≡◌, Bool, ◌&&◌, List, [], ◌∷◌, map, ℕ, ◌+◌, ◌≤◌, leb, length, take, drop, Some}
 use Rattle.sender.specs.Answers.{done}
 use Rattle.sender.specs.Opening.{opened}
-use Rattle.receiver.specs.declared.Opened.TheVariants.{Ready}
 use Rattle.receiver.specs.Call.{OpenedAs}
 use Rattle.receiver.specs.Tp.{Input}
 use Rattle.sender.specs.Run.{Call, World, Tp, Deed, refused, took, took_low, drew, tps, deeds, left, undrawn}
@@ -47,7 +46,7 @@ pub record Link : Type 0 where
   pub calls : List Call
   pub got : List (List ℕ)
   pub sends : opened size stream piece (length world.low) (length world.ordinary) ≡ done world.sender
-  pub listens : OpenedAs size stream (length listener.room) (Ready listener.receiver)
+  pub listens : OpenedAs size stream (length listener.room) (Some listener.receiver)
   pub damaged : Damaged (tps (deeds world calls)) (all_eps (items piece (deeds world calls))) (undrawn (left world calls)) got
 
 abbrev pub did : Link → List Deed

@@ -8,13 +8,13 @@ use native.Mathlib.Omega.{arith}
 use lib.Count.{ones_in}
 use Rattle.golay.specs.Answers.{end_flips, end_of}
 use Rattle.wire.specs.Reading.{header_of, sort_of}
+use Rattle.std.specs.Prelude.{None}
 use Rattle.receiver.specs.declared.Find.{Find}
 use Rattle.receiver.specs.declared.Find.TheVariants as F
 use Rattle.receiver.specs.declared.Place.{Place}
 use Rattle.receiver.specs.declared.Receiver.{Receiver}
 use Rattle.receiver.specs.declared.Stage.TheVariants.{Due, Fresh}
 use Rattle.receiver.specs.declared.Step.{Step}
-use Rattle.receiver.specs.declared.walk.Kept.TheVariants.{Empty}
 use Rattle.receiver.specs.declared.walk.Phase.TheVariants.{Head, Lost}
 use Rattle.receiver.specs.Call.{Gave, Gives, call_as, call_of, due_call, first_call, fresh_of, stepped}
 use Rattle.receiver.specs.Place.{own_of, start_of}
@@ -41,14 +41,14 @@ first_at n = record { stamp = own_of 1; at = n }
 
 abbrev behind : Step
 behind = record {
-  receiver = record { size = 16; stream = 0; limit = 1; count = 1; stage = Due 9; walk = record { at = 13; phase = Lost; began = start_of (own_of 0); kept = Empty } };
+  receiver = record { size = 16; stream = 0; limit = 1; count = 1; stage = Due 9; walk = record { at = 13; phase = Lost; began = start_of (own_of 0); kept = None } };
   find = F.Low 1 10 2;
   about = record { repaired = 0; at = first_at 0 };
 }
 
 abbrev between : Step
 between = record {
-  receiver = record { size = 16; stream = 0; limit = 1; count = 1; stage = Fresh; walk = record { at = 0; phase = Head 3 0x1007B4; began = first_at 9; kept = Empty } };
+  receiver = record { size = 16; stream = 0; limit = 1; count = 1; stage = Fresh; walk = record { at = 0; phase = Head 3 0x1007B4; began = first_at 9; kept = None } };
   find = F.Nothing;
   about = record { repaired = 0; at = first_at 0 };
 }

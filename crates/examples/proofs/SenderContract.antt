@@ -6,11 +6,10 @@ use mathlib.Core.List.{List, [], ◌∷◌, flatten}
 use Prim.Native.Nat.{ℕ, ◌≤◌}
 use native.Mathlib.Omega.{arith}
 use lib.ListN.{get_or, replicate}
+use Rattle.std.specs.Prelude.{Result, Err}
 use Rattle.golay.specs.Golay.{chosen, code_word}
 use Rattle.wire.specs.Wire.{word, first_number, header, ep, stream_byte, offset_number, tp_header}
 use Rattle.queue.specs.Ring.{around, held, longer, written, wrap, off}
-use Rattle.sender.specs.declared.Answer.{Answer}
-use Rattle.sender.specs.declared.Answer.TheVariants.{Refused}
 use Rattle.sender.specs.declared.Refusal.{Refusal}
 use Rattle.sender.specs.declared.Sender.{Sender}
 use Rattle.sender.specs.Answers.{number, done, refusal, given_by, Left, lent}
@@ -72,12 +71,12 @@ first_draw = refl
 -- ---- any sender, by what it answers to a call: the answer, and the bytes then of the buffer that the call may write
 
 abbrev pub Offering : Type 0
-Offering = Sender → List ℕ → List ℕ → ℕ → List ℕ → Answer × List ℕ
+Offering = Sender → List ℕ → List ℕ → ℕ → List ℕ → Result Sender Refusal × List ℕ
 
 abbrev pub Drawing : Type 0
-Drawing = Sender → List ℕ → List ℕ → List ℕ → Answer × List ℕ
+Drawing = Sender → List ℕ → List ℕ → List ℕ → Result Sender Refusal × List ℕ
 
-abbrev left : Answer × List ℕ → Left
+abbrev left : Result Sender Refusal × List ℕ → Left
 left x = record { given = given_by x.0; buffer = x.1 }
 
 -- it keeps a call's contract
@@ -91,10 +90,10 @@ abbrev pub KeepsDraw : Drawing → Type 0
 KeepsDraw a = (s : Sender) (low ordinary tp : List ℕ) → Sound s → left (a s low ordinary tp) ≡ drew s low ordinary tp
 
 -- an answer that refuses, with whatever number
-abbrev pub Refuses : Answer → Type 0
-Refuses x = (k : Refusal) × (x ≡ Refused k)
+abbrev pub Refuses : Result Sender Refusal → Type 0
+Refuses x = (k : Refusal) × (x ≡ Err k)
 
-no_refusal : (x : Answer × List ℕ) (s : Sender) (b : List ℕ) → Refuses x.0 → left x ≡ record { given = done s; buffer = b } → ⊥
+no_refusal : (x : Result Sender Refusal × List ℕ) (s : Sender) (b : List ℕ) → Refuses x.0 → left x ≡ record { given = done s; buffer = b } → ⊥
 no_refusal x s b r e =
     let g : refusal (number r.0) ≡ done s = ap given_by (sym r.1) ∙ ap (λ (l : Left). l.given) e in
     let z : ◌≡◌ {A = ℕ} 0 1 = cc in

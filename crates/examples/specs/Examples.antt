@@ -1,10 +1,9 @@
 -- Document 01's starred examples, as a single list: each stands in the document's order, with its own numbers.
 -- Assumes nothing.
-use Rattle.std.specs.Prelude.{◌≡◌, List, [], ◌∷◌, ◌++◌, ℕ, replicate}
+use Rattle.std.specs.Prelude.{◌≡◌, List, [], ◌∷◌, ◌++◌, ℕ, replicate, Option, None}
 use Rattle.golay.specs.Golay.{code_word}
-use Rattle.golay.specs.Answers.{Decodes, end_of}
-use Rattle.golay.specs.declared.Decoded.{Decoded}
-use Rattle.golay.specs.declared.Decoded.TheVariants.{Word, Beyond}
+use Rattle.golay.specs.Answers.{Decodes, end_of, found}
+use Rattle.golay.specs.declared.Word.{Word}
 use Rattle.golay.specs.declared.End.{End}
 use Rattle.golay.specs.declared.End.TheVariants.{Zeros, Ones, Neither}
 use Rattle.sender.specs.Opening.{fresh}
@@ -49,7 +48,7 @@ listing bs = listed (record { size = 16; stream = 0; room = 32768 }) (inputs bs)
 -- size F; the TPs that calls give; the finds that TPs give; their listing; the recording that a script gives
 pub data Example : Type 0 where
   encodes : ℕ → ℕ → Example
-  decodes : ℕ → Decoded → Example
+  decodes : ℕ → Option Word → Example
   ends : ℕ → End → Example
   cuts : ℕ → ℕ → List ℕ → List (List ℕ) → Example
   sends : List Call → List (List ℕ) → Example
@@ -120,9 +119,9 @@ examples =
     ∷ encodes 0x001 0x0018EB
     ∷ encodes 0x7FF 0x7FF38A
     ∷ encodes 0xFFF 0xFFFFFF
-    ∷ decodes 0x000007 (Word 0x000 3 0x000007)
-    ∷ decodes 0x00000F Beyond
-    ∷ decodes 0x7FF38D (Word 0x7FF 3 0x000007)
+    ∷ decodes 0x000007 (found 0x000 3 0x000007)
+    ∷ decodes 0x00000F None
+    ∷ decodes 0x7FF38D (found 0x7FF 3 0x000007)
     ∷ ends 0x07 Zeros
     ∷ ends 0x0F Neither
     ∷ ends 0x1F Ones

@@ -11,9 +11,8 @@ use lib.Pow.{pow_pos, mod-mod-pow}
 use lib.Dec.{eqb, lit<, lit≤}
 use borrow.Author.Tests.{ne_eqb}
 use Rattle.golay.specs.Golay.{high, low, checks, chosen, code_word, weight, distance, places_to, syndrome}
-use Rattle.golay.specs.Answers.{Corrects, Enters, correction_of, Nearest, Decodes, Mends}
-use Rattle.golay.specs.declared.Decoded.TheVariants.{Word}
-use Rattle.golay.specs.declared.Mended.TheVariants as M
+use Rattle.std.specs.Prelude.{Some, None}
+use Rattle.golay.specs.Answers.{Corrects, Enters, correction_of, found, Nearest, Decodes, Mends}
 use Rattle.golay.proofs.Xor.{xor_test, within, chosen_lt, ones_same, no_ones}
 use Rattle.golay.proofs.Words.{alone, parity_lt, repaired}
 
@@ -92,7 +91,7 @@ module _ (w n : ℕ) where
   no_places none = no_ones 24 (places_to w n) places_lt (as_many ∙ none)
 
 -- a word of syndrome 0 is a code word
-pub intact : (w : ℕ) → syndrome w ≡ 0 → Decodes w (Word (high w) 0 0)
+pub intact : (w : ℕ) → syndrome w ≡ 0 → Decodes w (found (high w) 0 0)
 unfolding Decodes syndrome weight chosen ones_in
 intact w e =
     let none : distance w (code_word (high w)) ≡ 0 = rw (xor_zero_r (high w)) at (repaired w 0 e) in
@@ -100,7 +99,7 @@ intact w e =
 
 -- what the table's entry says of the word
 module _ (w y : ℕ) (c : Enters (syndrome w) y) where
-  pub mends : (y ≡ 0xFFFF → ⊥) → Mends w (M.Word (bit_xor (high w) (y % 4096)) (y / 4096))
+  pub mends : (y ≡ 0xFFFF → ⊥) → Mends w (Some (record { number = bit_xor (high w) (y % 4096); flips = y / 4096 }))
   unfolding Mends Decodes
   mends some =
       ⊎_elim
@@ -113,7 +112,7 @@ module _ (w y : ℕ) (c : Enters (syndrome w) y) where
       (λ p. absurd (some p.0))
       c
 
-  pub none_near : y ≡ 0xFFFF → Mends w M.Beyond
+  pub none_near : y ≡ 0xFFFF → Mends w None
   unfolding Mends Decodes
   none_near mark = far w (correction_of y) (correction_of_lem (syndrome w) y c) (ap correction_of mark)
 

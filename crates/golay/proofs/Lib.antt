@@ -6,4 +6,3 @@ pub mod Decoder
 pub mod Ends
 pub mod Theorems
 pub mod Lookups
-pub mod Filling

@@ -1,15 +1,17 @@
--- A number's parity in three lookups, and the number behind a parity in two: the rows fall into groups, and what as many bits
--- choose of a group stands in a table. Assumes nothing.
+-- The number behind a parity in one lookup, and a number's parity in three: what as many bits as there are rows choose of them
+-- stands in a table, of all rows or of a group. Assumes nothing.
 use mathlib.Core.Path.{◌≡◌, refl, sym, ap, ap₂, ◌∙◌}
 use mathlib.Core.List.{List, [], ◌∷◌, ◌++◌}
-use Prim.Native.Nat.{ℕ, suc, ◌+◌, ◌*◌, ◌/◌, ◌%◌, ◌^◌}
-use native.Mathlib.Nat.{mod-lt, mod-eq_of_lt, le_of_suc-le-suc, add_comm}
+use Prim.Native.Nat.{ℕ, ◌+◌, ◌*◌, ◌/◌, ◌%◌, ◌^◌}
+use native.Mathlib.Nat.{mod-lt, mod-eq_of_lt, zero-add, add_comm}
 use native.Mathlib.Numerals.{one-add}
 use lib.Bits.{bit_xor}
 use lib.Pow.{pow_pos, shr-shr, field, mod-mod-pow}
-use lib.ListN.{length, length-append}
+use lib.ListN.{length, get_or, length-append}
+use lib.Dec.{T, eqb, eqb→eq}
+use mathlib.Core.Bool.{Bool}
 use Rattle.golay.specs.Golay.{chosen}
-use Rattle.golay.proofs.Test.{NoneBelow, only}
+use Rattle.golay.proofs.Test.{each, passed}
 use Rattle.golay.proofs.Xor.{xor_assoc}
 
 -- rows one after the other are chosen by bits one after the other
@@ -32,16 +34,24 @@ same_bits (r ∷ rs) n m h =
     ap₂ (λ (x y : ℕ). bit_xor (x * r) y) (sym (field n 1 k) ∙ ap (λ (x : ℕ). x / 2 ^ k) e ∙ field m 1 k)
     (same_bits rs n m (sym (mod-mod-pow n 1 k) ∙ ap (λ (x : ℕ). x % 2 ^ k) e ∙ mod-mod-pow m 1 k))
 
--- a table has at the b low bits of n what they choose of b rows: by each entry, and by the last
-pub at : (b : ℕ) (rs : List ℕ) (n k r : ℕ) → length rs ≡ b → n % 2 ^ b ≡ k → r ≡ chosen rs k → r ≡ chosen rs n
-at b rs n k r long here e =
-    e ∙ ap (chosen rs) (sym here) ∙ same_bits rs (n % 2 ^ b) n (rw long (mod-eq_of_lt (mod-lt n (pow_pos b))))
+-- the b low bits of n choose the same as n of b rows
+pub at : (b : ℕ) (rs : List ℕ) (n : ℕ) → length rs ≡ b → chosen rs (n % 2 ^ b) ≡ chosen rs n
+at b rs n long = same_bits rs (n % 2 ^ b) n (rw long (mod-eq_of_lt (mod-lt n (pow_pos b))))
 
-pub at_last : (b k : ℕ) (rs : List ℕ) (n r : ℕ) → length rs ≡ b → suc k ≡ 2 ^ b → NoneBelow k (n % 2 ^ b) → r ≡ chosen rs k → r ≡ chosen rs n
-at_last b k rs n r long all none = at b rs n k r long (only k (n % 2 ^ b) (le_of_suc-le-suc (rw all (mod-lt n (pow_pos b)))) none)
+-- a table has at each number what its b bits choose of b rows
+unfoldable pub chooses : List ℕ → ℕ → ℕ → Bool
+chooses rs k x = eqb x (chosen rs k)
+
+-- so it has at the b low bits of n what these choose
+pub looked_up : (b : ℕ) (rs xs : List ℕ) (n : ℕ) → length rs ≡ b → length xs ≡ 2 ^ b → T (each (chooses rs) 0 xs) → get_or xs (n % 2 ^ b) 0 ≡ chosen rs n
+unfolding chooses
+looked_up b rs xs n long many all =
+    let k = n % 2 ^ b in
+    let t : T (eqb (get_or xs k 0) (chosen rs k)) = rw (zero-add k) at (passed (chooses rs) xs 0 all k (rw many (mod-lt n (pow_pos b)))) in
+    eqb→eq (get_or xs k 0) (chosen rs k) t ∙ at b rs n long
 
 -- rows fall into two groups
-pub in_two : (b : ℕ) (xs ys : List ℕ) (n c d : ℕ) → length ys ≡ b
+in_two : (b : ℕ) (xs ys : List ℕ) (n c d : ℕ) → length ys ≡ b
     → c ≡ chosen xs (n / 2 ^ b) → d ≡ chosen ys n → bit_xor c d ≡ chosen (xs ++ ys) n
 in_two b xs ys n c d long e f = ap₂ bit_xor e f ∙ sym (rw long at (split xs ys n))
 

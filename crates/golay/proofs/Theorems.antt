@@ -11,39 +11,42 @@ use lib.Count.{ones_in}
 use lib.Dec.{leb, lit<, lit≤}
 use borrow.Author.Tests.{leb-true, leb-false, lt-leb}
 use Rattle.golay.specs.Golay.{high, chosen, code_word, weight, distance, places_to, syndrome}
-use Rattle.golay.specs.Answers.{Nearest, Decodes, Corrects, count, reading_below, reading}
-use Rattle.golay.specs.declared.Decoded.{Decoded}
-use Rattle.golay.specs.declared.Decoded.TheVariants.{Word, Beyond}
+use Rattle.std.specs.Prelude.{Option, Some, None}
+use Rattle.golay.specs.Answers.{Nearest, Decodes, Corrects, count, found, reading_below, reading}
+use Rattle.golay.specs.declared.Word.{Word}
 use Rattle.golay.proofs.Xor.{xor_twice}
 use Rattle.golay.proofs.Words.{alone}
 use Rattle.golay.proofs.Decoder.{nearest, near, far, as_many}
 
-pub one_answer : (w : ℕ) (r s : Decoded) → Decodes w r → Decodes w s → r ≡ s
+found_same : {m n c d e f : ℕ} → m ≡ n → c ≡ d → e ≡ f → found m c e ≡ found n d f
+found_same p q r = rw (p, q, r)
+
+pub one_answer : (w : ℕ) (r s : Option Word) → Decodes w r → Decodes w s → r ≡ s
 unfolding Decodes
-one_answer w (Word m c e) (Word n d f) p q =
-    let same : m ≡ n = alone w m n p.0 q.0 (omega arith) in
-    cc
-one_answer w (Word m c e) Beyond p q = absurd (omega (arith, q.0 m p.0))
-one_answer w Beyond (Word n d f) p q = absurd (omega (arith, p.0 n q.0))
-one_answer w Beyond Beyond p q = refl
+one_answer w (Some x) (Some y) p q =
+    let same : x.number ≡ y.number = alone w x.number y.number p.0 q.0 (omega arith) in
+    found_same same (sym p.1 ∙ ap (λ (n : ℕ). distance w (code_word n)) same ∙ q.1) (p.3 ∙ ap (places_to w) same ∙ sym q.3)
+one_answer w (Some x) None p q = absurd (omega (arith, q.0 x.number p.0))
+one_answer w None (Some y) p q = absurd (omega (arith, p.0 y.number q.0))
+one_answer w None None p q = refl
 
 -- the count is the distance to the nearest code word
-pub true_count : (w : ℕ) (r : Decoded) → Decodes w r → Nearest w (count r)
+pub true_count : (w : ℕ) (r : Option Word) → Decodes w r → Nearest w (count r)
 unfolding Decodes
-true_count w (Word n c e) d = nearest w n c d.0 d.1 (omega arith)
-true_count w Beyond d = d
+true_count w (Some x) d = nearest w x.number x.flips d.0 d.1 (omega arith)
+true_count w None d = d
 
 -- the contract is false of an invented count: of any that is not the distance, and so of the number's half counted alone
-pub invented : (w n c e : ℕ) → (c ≡ distance w (code_word n) → ⊥) → Decodes w (Word n c e) → ⊥
+pub invented : (w n c e : ℕ) → (c ≡ distance w (code_word n) → ⊥) → Decodes w (found n c e) → ⊥
 unfolding Decodes
 invented w n c e other d = other (sym d.1)
 
-pub half_counted : (e : ℕ) → Decodes 0x000007 (Word 0x000 0 e) → ⊥
+pub half_counted : (e : ℕ) → Decodes 0x000007 (found 0x000 0 e) → ⊥
 unfolding distance weight code_word chosen ones_in
 half_counted e = invented 0x000007 0x000 0 e (λ z. omega arith)
 
 -- as many places are told as flips are counted
-pub places_count : (w n c e : ℕ) → Decodes w (Word n c e) → ones_in 24 e ≡ c
+pub places_count : (w n c e : ℕ) → Decodes w (found n c e) → ones_in 24 e ≡ c
 unfolding Decodes
 places_count w n c e d = ap (ones_in 24) d.3 ∙ as_many w n ∙ d.1
 
@@ -72,14 +75,14 @@ one_entry s x y p q =
 -- ---- the answer as a function
 
 module _ (w : ℕ) where
-  finds : (k n : ℕ) → n < k → k ≤ 4096 → distance w (code_word n) ≤ 3 → reading_below k w ≡ Word n (distance w (code_word n)) (places_to w n)
+  finds : (k n : ℕ) → n < k → k ≤ 4096 → distance w (code_word n) ≤ 3 → reading_below k w ≡ found n (distance w (code_word n)) (places_to w n)
   unfolding reading_below
   finds zero n h g few = absurd (not-suc-le-zero h)
   finds (suc k) n h g few = go (leb (distance w (code_word k)) 3) refl (λ other. finds k n other (omega arith) few)
     where
       go : (t : Bool) → leb (distance w (code_word k)) 3 ≡ t
-          → (n < k → reading_below k w ≡ Word n (distance w (code_word n)) (places_to w n))
-          → cond t (Word k (distance w (code_word k)) (places_to w k)) (reading_below k w) ≡ Word n (distance w (code_word n)) (places_to w n)
+          → (n < k → reading_below k w ≡ found n (distance w (code_word n)) (places_to w n))
+          → cond t (found k (distance w (code_word k)) (places_to w k)) (reading_below k w) ≡ found n (distance w (code_word n)) (places_to w n)
       go true e below =
           let same : k ≡ n = alone w k n (omega arith) (omega arith) (omega (arith, leb-true (distance w (code_word k)) 3 e)) in
           rw same
@@ -88,20 +91,20 @@ module _ (w : ℕ) where
           let near : distance w (code_word k) ≤ 3 = rw same few in
           omega (arith, leb-false (distance w (code_word k)) 3 e)))
 
-  misses : (k : ℕ) → k ≤ 4096 → ((n : ℕ) → n < 4096 → 4 ≤ distance w (code_word n)) → reading_below k w ≡ Beyond
+  misses : (k : ℕ) → k ≤ 4096 → ((n : ℕ) → n < 4096 → 4 ≤ distance w (code_word n)) → reading_below k w ≡ None
   unfolding reading_below
   misses zero g far-off = refl
   misses (suc k) g far-off =
       let over : 3 < distance w (code_word k) = far-off k (omega arith) in
       rw (lt-leb (distance w (code_word k)) 3 over) (misses k (omega arith) far-off)
 
-  pub is_reading : (r : Decoded) → Decodes w r → r ≡ reading w
+  pub is_reading : (r : Option Word) → Decodes w r → r ≡ reading w
   unfolding Decodes reading
-  is_reading (Word n c e) d =
-      sym (finds 4096 n d.0 (lit≤ tt) (omega arith) ∙ ap₂ (Word n) d.1 (sym d.3))
-  is_reading Beyond d = sym (misses 4096 (lit≤ tt) d.0)
+  is_reading (Some x) d =
+      sym (finds 4096 x.number d.0 (lit≤ tt) (omega arith) ∙ ap₂ (found x.number) d.1 (sym d.3))
+  is_reading None d = sym (misses 4096 (lit≤ tt) d.0)
 
   -- a word within three flips of a code word is read as its number, with exactly that count
-  pub reading_near : (n : ℕ) → n < 4096 → distance w (code_word n) ≤ 3 → reading w ≡ Word n (distance w (code_word n)) (places_to w n)
+  pub reading_near : (n : ℕ) → n < 4096 → distance w (code_word n) ≤ 3 → reading w ≡ found n (distance w (code_word n)) (places_to w n)
   unfolding reading
   reading_near n lt few = finds 4096 n lt (lit≤ tt) few

@@ -1,6 +1,6 @@
 -- The extended Golay code (document 01, "The Golay word"; IRIG 106-23 Chapter 7, A.2 and A.3).
 -- Assumes nothing.
-use Rattle.std.specs.Prelude.{List, [], ◌∷◌, ℕ, ◌+◌, ◌*◌, ◌/◌, ◌%◌, ◌^◌, length, get_or, take, drop}
+use Rattle.std.specs.Prelude.{List, [], ◌∷◌, ℕ, ◌+◌, ◌*◌, ◌/◌, ◌%◌, ◌^◌, length, take, drop}
 use Rattle.std.specs.Int.Bits.{bit_xor}
 use Rattle.std.specs.Int.Count.{ones_in}
 
@@ -41,10 +41,6 @@ byte_distance a b = ones_in 8 (bit_xor a b)
 abbrev pub four : List ℕ → ℕ → List ℕ
 four rs i = take 4 (drop i rs)
 
--- and six: what six bits choose of them stands in a table of sixty-four
-abbrev pub six : List ℕ → ℕ → List ℕ
-six rs i = take 6 (drop i rs)
-
 -- ---- the syndrome, by which the table of corrections is indexed (A.3)
 
 -- the parity check rows
@@ -62,7 +58,3 @@ low w = w % 4096
 -- of a word, or of an error: a word with a one at each flipped bit
 unfoldable pub syndrome : ℕ → ℕ
 syndrome w = bit_xor (chosen checks (low w)) (high w)
-
--- the entry of a table at a syndrome
-unfoldable pub entry_of : List ℕ → ℕ → ℕ
-entry_of table s = get_or table s 0

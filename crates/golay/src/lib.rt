@@ -3,27 +3,26 @@
 
 ghost use Rattle.std.specs.Prelude.{◌≡◌, eqb};
 ghost use Rattle.golay.specs.Golay.{code_word, places_to, syndrome};
-ghost use Rattle.golay.specs.Answers.{Decodes, Enters, Mends, end_byte, end_flips, end_meant};
+ghost use Rattle.golay.specs.Answers.{Decodes, Mends, end_byte, end_flips, end_meant};
 
-pub mod book;
 mod checks;
 mod corrections;
 pub mod pair;
 mod parities;
 
-// A 24-bit word read: the number of the code word within three flips, how many flips, and a one at each flipped bit;
-// or beyond repair.
+// A 24-bit word within three flips of a code word: that one's number, how many flips, and a one at each flipped bit.
 #[derive(Clone, Copy)]
-pub enum Decoded {
-    Word { number: u16, flips: u8, places: u32 },
-    Beyond,
+pub struct Word {
+    pub number: u16,
+    pub flips: u8,
+    pub places: u32,
 }
 
 // The same without the places.
 #[derive(Clone, Copy)]
-pub enum Mended {
-    Word { number: u16, flips: u8 },
-    Beyond,
+pub struct Mended {
+    pub number: u16,
+    pub flips: u8,
 }
 
 // An end byte read: 00, FF, or beyond repair.
@@ -62,49 +61,40 @@ pub fn is_intact(w: u32) -> bool
     checks::number((w % 4096) as u16) == ((w >> 12) % 4096) as u16
 }
 
-// What the 24 low bits of w say by the table's entry at its syndrome.
-fn said(w: u32, entry: u16) -> Mended
-    requires { Enters (syndrome w) entry }
-    ensures { Mends w result }
-{
-    if entry == 0xFFFF {
-        return Mended::Beyond;
-    }
-    let flipped = entry % 4096;
-    Mended::Word {
-        number: ((w >> 12) % 4096) as u16 ^ flipped,
-        flips: (entry / 4096) as u8,
-    }
-}
-
-// What the 24 low bits of w say, whose syndrome is known: the table decides.
-pub fn mend(w: u32, s: u16) -> Mended
+// What the 24 low bits of w say, whose syndrome is known: the table decides. None if they are beyond repair.
+pub fn mend(w: u32, s: u16) -> Option<Mended>
     requires { s ≡ syndrome w }
     ensures { Mends w result }
 {
-    said(w, corrections::correction(s))
+    let entry = corrections::correction(s);
+    if entry == 0xFFFF {
+        return None;
+    }
+    let flipped = entry % 4096;
+    Some(Mended {
+        number: ((w >> 12) % 4096) as u16 ^ flipped,
+        flips: (entry / 4096) as u8,
+    })
 }
 
-// What the 24 low bits of w say. An intact word leaves at once.
-pub fn decode(w: u32) -> Decoded
+// What the 24 low bits of w say; none if they are beyond repair. An intact word leaves at once.
+pub fn decode(w: u32) -> Option<Word>
     ensures { Decodes w result }
 {
     let s = syndrome_of(w);
     if s == 0 {
-        return Decoded::Word {
+        return Some(Word {
             number: ((w >> 12) % 4096) as u16,
             flips: 0,
             places: 0,
-        };
+        });
     }
-    let Mended::Word { number, flips } = mend(w, s) else {
-        return Decoded::Beyond;
-    };
-    Decoded::Word {
+    let Mended { number, flips } = mend(w, s)?;
+    Some(Word {
         number,
         flips,
         places: places_to(w, number),
-    }
+    })
 }
 
 // What an end byte says.

@@ -2,7 +2,7 @@
 ghost use Rattle.std.specs.Prelude.{◌≡◌};
 ghost use Rattle.golay.specs.Golay.{code_word};
 
-use crate::parities::parity;
+use crate::encode;
 
 // The code words of two numbers.
 #[derive(Clone, Copy)]
@@ -15,7 +15,7 @@ pub fn encode_pair(a: u16, b: u16) -> Pair
     ensures { result ≡ record { first = code_word a; second = code_word b } }
 {
     Pair {
-        first: (a % 4096) as u32 * 4096 + parity(a) as u32,
-        second: (b % 4096) as u32 * 4096 + parity(b) as u32,
+        first: encode(a),
+        second: encode(b),
     }
 }

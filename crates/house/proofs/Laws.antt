@@ -14,13 +14,11 @@ use Rattle.wire.specs.Limits.{link_allowed, allowed}
 use Rattle.house.specs.declared.Record.{Record}
 use Rattle.house.specs.declared.Record.TheVariants.{Setup, Ordinary, Low, Draw, Packet, Gap}
 use Rattle.house.specs.declared.Place.{Place}
-use Rattle.house.specs.declared.Judged.TheVariants.{Good}
-use Rattle.house.specs.declared.AtHand.TheVariants.{Whole}
+use Rattle.std.specs.Prelude.{Some, Ok}
 use Rattle.house.specs.declared.Setup as S
 use Rattle.house.specs.Records.{kind_of, length_of, head_of, record_bytes, is_read, ruled, judged_of}
 use Rattle.house.specs.Slices.{at_hand, data_in, written_in}
 use Rattle.house.proofs.Slicing.{is_whole_lem}
-use Rattle.house.specs.declared.Settings.TheVariants.{Within}
 use Rattle.house.specs.Setups.{settings_of, setup_bytes}
 
 four : (n : ℕ) → n ≤ 32768 → number 0 (digits 4 n) ≡ n
@@ -30,7 +28,7 @@ two : (n : ℕ) → n < 65536 → number 0 (digits 2 n) ≡ n
 two n h = omega arith
 
 -- a written head is read as what it was written for, wherever its kind is read and whatever follows it
-pub again : (p : Place) (r : Record) (rest : List ℕ) → is_read p (kind_of r) ≡ true → length_of r ≤ 32768 → judged_of p (head_of r ++ rest) ≡ Good r
+pub again : (p : Place) (r : Record) (rest : List ℕ) → is_read p (kind_of r) ≡ true → length_of r ≤ 32768 → judged_of p (head_of r ++ rest) ≡ Ok r
 unfolding judged_of ruled
 again p Setup rest h f = rw h
 again p (Ordinary c n) rest h f = rw (four n f, h, le-leb n 32768 f)
@@ -45,7 +43,7 @@ module _ (p : Place) (r : Record) (d rest : List ℕ) (same : length d ≡ lengt
   data_again = take_at d rest (length_of r) same
 
   -- a written record is read whole
-  pub whole_again : is_read p (kind_of r) ≡ true → length_of r ≤ 32768 → at_hand p (record_bytes r d ++ rest) ≡ Whole r
+  pub whole_again : is_read p (kind_of r) ≡ true → length_of r ≤ 32768 → at_hand p (record_bytes r d ++ rest) ≡ Ok (Some r)
   whole_again h f =
       let long : length (record_bytes r d ++ rest) ≡ 8 + length d + length rest = length-append (record_bytes r d) rest ∙ ap (λ (n : ℕ). n + length rest) (length-append (head_of r) d) in
       let enough : length_of r ≤ length (record_bytes r d ++ rest) - 8 = omega arith in
@@ -53,7 +51,7 @@ module _ (p : Place) (r : Record) (d rest : List ℕ) (same : length d ≡ lengt
 
 -- a record written into a buffer is read back from where it was written, with its data
 pub written_again : (p : Place) (r : Record) (d out : List ℕ) (at : ℕ) → is_read p (kind_of r) ≡ true → length_of r ≤ 32768 → length d ≡ length_of r → at + 8 + length d ≤ length out
-    → (at_hand p (drop at (written_in r d out at).bytes) ≡ Whole r) × (data_in r (drop at (written_in r d out at).bytes) ≡ d)
+    → (at_hand p (drop at (written_in r d out at).bytes) ≡ Ok (Some r)) × (data_in r (drop at (written_in r d out at).bytes) ≡ d)
 unfolding written_in
 written_again p r d out at h f same room =
     let b = record_bytes r d in
@@ -64,7 +62,7 @@ written_again p r d out at h f same room =
     (whole_again p r d after same h f, data_again p r d after same)
 
 -- written settings within the limits are read as they were
-pub settings_again : (s : S.Setup) → 16 ≤ s.tp → s.tp ≤ 2051 → s.stream ≤ 15 → 1 ≤ s.piece → s.piece < 65536 → settings_of (setup_bytes s) ≡ Within s
+pub settings_again : (s : S.Setup) → 16 ≤ s.tp → s.tp ≤ 2051 → s.stream ≤ 15 → 1 ≤ s.piece → s.piece < 65536 → settings_of (setup_bytes s) ≡ Some s
 unfolding settings_of link_allowed allowed
 settings_again s a b c d e =
     let t : number 0 (digits 2 s.tp) ≡ s.tp = two s.tp (omega arith) in

@@ -1,4 +1,5 @@
 pub mod Records
+pub mod Faults
 pub mod Setups
 pub mod Slices
 pub mod Series

@@ -1,13 +1,12 @@
 -- House records: document 01, 'Records and programs'. A record is its head of eight bytes and its data.
 -- A head that breaks several rules is told by the first in the document's order: mark, kind, content, length. Assumes nothing.
-use Rattle.std.specs.Prelude.{ℕ, Bool, cond, ◌&&◌, ◌||◌, List, [], ◌∷◌, ◌++◌, eqb, leb, get_or}
+use Rattle.std.specs.Prelude.{ℕ, Bool, cond, ◌&&◌, ◌||◌, List, [], ◌∷◌, ◌++◌, eqb, leb, get_or, Result, Ok, Err}
 use Rattle.digits.specs.Digits.{digits, number}
 use Rattle.house.specs.declared.Record.{Record}
 use Rattle.house.specs.declared.Record.TheVariants.{Setup, Ordinary, Low, Draw, Packet, Gap}
 use Rattle.house.specs.declared.Place.{Place}
 use Rattle.house.specs.declared.Place.TheVariants.{Start, Sending, Listing}
-use Rattle.house.specs.declared.Judged.{Judged}
-use Rattle.house.specs.declared.Judged.TheVariants.{Good, Bad}
+use Rattle.house.specs.declared.Fault.{Fault}
 use Rattle.house.specs.declared.Fault.TheVariants.{Mark, Kind, Content, Length}
 
 -- "Kinds: 0 setup, 1 ordinary SP, 2 low-latency SP, 3 draw, 4 TP, 5 gap."
@@ -69,17 +68,17 @@ record_of k c n =
     (cond (eqb k 4) (Packet n) Gap))))
 
 -- what a head with a mark says, by its kind, content and length
-unfoldable pub ruled : Place → ℕ → ℕ → ℕ → Judged
+unfoldable pub ruled : Place → ℕ → ℕ → ℕ → Result Record Fault
 ruled p k c n =
     cond (is_read p k)
     (cond (content_fits k c)
-    (cond (length_fits k n) (Good (record_of k c n)) (Bad Length))
-    (Bad Content))
-    (Bad Kind)
+    (cond (length_fits k n) (Ok (record_of k c n)) (Err Length))
+    (Err Content))
+    (Err Kind)
 
 -- what the first eight bytes say at a place
-unfoldable pub judged_of : Place → List ℕ → Judged
+unfoldable pub judged_of : Place → List ℕ → Result Record Fault
 judged_of p h =
     cond (eqb (number 0 (get_or h 0 0 ∷ get_or h 1 0 ∷ [])) 0xC707)
     (ruled p (get_or h 2 0) (get_or h 3 0) (number 0 (get_or h 4 0 ∷ get_or h 5 0 ∷ get_or h 6 0 ∷ get_or h 7 0 ∷ [])))
-    (Bad Mark)
+    (Err Mark)

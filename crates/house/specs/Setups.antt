@@ -1,10 +1,8 @@
 -- A setup record's data: document 01, 'Records and programs' and 'Sender'. Assumes nothing.
-use Rattle.std.specs.Prelude.{ℕ, Bool, cond, ◌&&◌, List, [], ◌∷◌, ◌++◌, eqb, length, get_or}
+use Rattle.std.specs.Prelude.{ℕ, Bool, cond, ◌&&◌, List, [], ◌∷◌, ◌++◌, eqb, length, get_or, Option, Some, None}
 use Rattle.digits.specs.Digits.{digits, number}
 use Rattle.wire.specs.Limits.{allowed}
 use Rattle.house.specs.declared.Setup.{Setup}
-use Rattle.house.specs.declared.Settings.{Settings}
-use Rattle.house.specs.declared.Settings.TheVariants.{Within, Outside}
 
 -- "0 setup (TP length 2 bytes, stream 1, F 2)"
 abbrev pub setup_in : List ℕ → Setup
@@ -20,8 +18,8 @@ abbrev pub within : Setup → Bool
 within s = allowed s.tp s.stream s.piece
 
 -- "Data are 5 bytes in kind 0"
-unfoldable pub settings_of : List ℕ → Settings
-settings_of d = cond (eqb (length d) 5 && within (setup_in d)) (Within (setup_in d)) Outside
+unfoldable pub settings_of : List ℕ → Option Setup
+settings_of d = cond (eqb (length d) 5 && within (setup_in d)) (Some (setup_in d)) None
 
 -- the data of a setup
 abbrev pub setup_bytes : Setup → List ℕ

@@ -1,12 +1,16 @@
 // House records (document 01, 'Records and programs'): a head of eight bytes, then the data.
 #![tactic(auto)]
 
+ghost use Rattle.house.specs.Faults.{text_of};
+ghost use Rattle.std.specs.Prelude.{Some};
+
 mod head;
 mod setups;
 mod whole;
 
 pub use head::head_of;
 pub use setups::read_setup;
+use std::fmt;
 pub use whole::{data_of, read_record, write_record};
 
 // What a good head says; the data are as long as it says.
@@ -39,25 +43,24 @@ pub enum Fault {
     Limits,
 }
 
-// A bad head gives none of its numbers.
-#[derive(Clone, Copy)]
-enum Judged {
-    Good(Record),
-    Bad(Fault),
+impl fmt::Display for Fault {
+    ghost output = { λ fault. Some (text_of fault) };
+
+    fn fmt<W: fmt::Write>(&self, f: &mut fmt::Formatter<W>) -> fmt::Result {
+        f.write_str(match self {
+            Fault::Mark => "no mark",
+            Fault::Kind => "a kind that has no place here",
+            Fault::Content => "content not 0",
+            Fault::Length => "wrong length",
+            Fault::Short => "cut short",
+            Fault::Limits => "a setup outside the limits",
+        })
+    }
 }
 
-// What the bytes at hand hold: not all of a record yet, a bad record, or a whole one with its data.
+// Why a record is not written: there is no room for it, or its data have another length than it says.
 #[derive(Clone, Copy)]
-pub enum AtHand {
-    Part,
-    Bad(Fault),
-    Whole(Record),
-}
-
-// A record is written up to this place; or there is no room for it, or its data have another length than it says.
-#[derive(Clone, Copy)]
-pub enum Written {
-    Till(usize),
+pub enum Unwritten {
     NoRoom,
     OtherLength,
 }
@@ -68,11 +71,4 @@ pub struct Setup {
     pub tp: usize,
     pub stream: u8,
     pub piece: usize,
-}
-
-// Settings outside the limits give none of their numbers.
-#[derive(Clone, Copy)]
-pub enum Settings {
-    Within(Setup),
-    Outside,
 }

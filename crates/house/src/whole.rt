@@ -2,24 +2,20 @@
 ghost use Rattle.std.specs.Prelude.{◌≡◌, ◌+◌, leb};
 ghost use Rattle.house.specs.Slices.{at_hand, data_in, written_in};
 
-use crate::{AtHand, Judged, Place, Record, Written, head};
+use crate::{Fault, Place, Record, Unwritten, head};
 
-// Reads the record at the start of s.
-pub fn read_record(place: Place, s: &[u8]) -> AtHand
+// Reads the record at the start of s: a bad one, none while not all of it is there, or a whole one with its data.
+pub fn read_record(place: Place, s: &[u8]) -> Result<Option<Record>, Fault>
     ensures { result ≡ at_hand place s.now }
 {
     if s.len() < 8 {
-        return AtHand::Part;
+        return Ok(None);
     }
-    match head::judge(place, s) {
-        Judged::Bad(fault) => AtHand::Bad(fault),
-        Judged::Good(said) => {
-            if s.len() - 8 < head::length_of(said) {
-                return AtHand::Part;
-            }
-            AtHand::Whole(said)
-        }
+    let said = head::judge(place, s)?;
+    if s.len() - 8 < head::length_of(said) {
+        return Ok(None);
     }
+    Ok(Some(said))
 }
 
 // The data of the record at the start of s.
@@ -41,29 +37,25 @@ pub fn data_of(said: Record, s: &[u8]) -> &[u8]
 fn has_room(size: usize, at: usize, n: usize) -> bool
     ensures { result ≡ leb (at + 8 + n) size }
 {
-    if size < at {
-        return false;
-    }
-    if size - at < 8 {
-        return false;
-    }
-    if size - at - 8 < n {
-        return false;
-    }
-    true
+    at <= size && 8 <= size - at && n <= size - at - 8
 }
 
-// Writes a record into out from index at on, or leaves out as it is.
-pub fn write_record(said: Record, data: &[u8], out: &mut [u8], at: usize) -> Written
+// Writes a record into out from index at on, and answers where it ends; or leaves out as it is.
+pub fn write_record(
+    said: Record,
+    data: &[u8],
+    out: &mut [u8],
+    at: usize,
+) -> Result<usize, Unwritten>
     ensures { record { answer = result; bytes = out.new } ≡ written_in said «data».now out.old at }
 {
     if data.len() != head::length_of(said) {
-        return Written::OtherLength;
+        return Err(Unwritten::OtherLength);
     }
     if !has_room(out.len(), at, data.len()) {
-        return Written::NoRoom;
+        return Err(Unwritten::NoRoom);
     }
     let head = head::head_of(said);
     let from = block::put(out, at, &head);
-    Written::Till(block::put(out, from, data))
+    Ok(block::put(out, from, data))
 }

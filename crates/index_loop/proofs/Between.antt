@@ -7,7 +7,7 @@ use lib.ListN.{length}
 use Rattle.block.specs.Block.{Block}
 use Rattle.house.specs.Series.{unread_in}
 use Rattle.house.specs.Slices.{at_hand, data_in}
-use Rattle.house.specs.declared.AtHand.TheVariants.{Whole}
+use Rattle.std.specs.Prelude.{Some, Ok}
 use Rattle.house.specs.declared.Place.TheVariants.{Listing}
 use Rattle.house.specs.declared.Record.{Record}
 use Rattle.house.specs.declared.Record.TheVariants.{Packet}
@@ -50,13 +50,13 @@ module _ (covered gone till : ℕ) (block : List ℕ) (a : Standing) (b : Receiv
     between_run z r =
         stands (Index covered) gone till block a from n (in_lane b k l Fresh 0) m (block_of out at) z m out r.from r.number r.receiver refl (ap (block_of out) r.at) so
 
-    module _ (said : Record) (size : ℕ) (x : List ℕ) (byte : ℕ) (z : Passed) (m' out' : List ℕ) (whole : at_hand Listing (unread_in block from till) ≡ Whole said) (is : said ≡ Packet size)
+    module _ (said : Record) (size : ℕ) (x : List ℕ) (byte : ℕ) (z : Passed) (m' out' : List ℕ) (whole : at_hand Listing (unread_in block from till) ≡ Ok (Some said)) (is : said ≡ Packet size)
         (tp : x ≡ data_in said (unread_in block from till)) (stamp : byte ≡ sum_of gone from) (p : PassedBy covered (record { number = n; byte = byte }) l b x m out at z m' out') where
       abbrev u : List ℕ
       u = unread_in block from till
 
-      packet : at_hand Listing u ≡ Whole (Packet size)
-      packet = whole ∙ ap Whole is
+      packet : at_hand Listing u ≡ Ok (Some (Packet size))
+      packet = whole ∙ ap (λ (r : Record). Ok (Some r)) is
 
       bytes : x ≡ data_in (Packet size) u
       bytes = tp ∙ ap (λ (r : Record). data_in r u) is

@@ -2,13 +2,13 @@
 use Prim.Native.Nat.{ℕ, ◌+◌}
 use mathlib.Core.Path.{◌≡◌, refl, ap, sym, subst, subst⁻¹, ◌∙◌}
 use mathlib.Core.Bool.{true, false}
-use mathlib.Core.Logic.{inl, inr, ⊎_elim}
+use mathlib.Core.Logic.{inr, ⊎_elim}
 use mathlib.Core.List.{List}
 use lib.ListN.{length}
 use Rattle.block.specs.Block.{Block}
 use Rattle.house.specs.Series.{unread_in}
 use Rattle.house.specs.Slices.{at_hand, data_in}
-use Rattle.house.specs.declared.AtHand.TheVariants.{Whole}
+use Rattle.std.specs.Prelude.{Some, Ok}
 use Rattle.house.specs.declared.Place.TheVariants.{Listing}
 use Rattle.house.specs.declared.Record.{Record}
 use Rattle.house.specs.declared.Record.TheVariants as R
@@ -40,11 +40,6 @@ module _ {task : Task} {t : Stamp} {tp : List ℕ} {r : Receiver} {m : List ℕ}
 
 -- a TP's record, by the stamp that its number and place make
 module _ (task : Task) (gone : ℕ) (tp : List ℕ) (first : Run) (m out : List ℕ) (byte : ℕ) (r : Run) (m' out' : List ℕ) (is : byte ≡ sum_of gone first.from) where
-  pub heard_on : Hears task (record { number = first.record; byte = byte }) tp first.receiver m (block_of out first.at) r.receiver m' (block_of out' r.at)
-      → r.from ≡ first.from → r.record ≡ first.record → Heard task gone tp first m out r m' out'
-  heard_on h ef en =
-      inl (subst (λ (n : ℕ). Hears task (record { number = first.record; byte = n }) tp first.receiver m (block_of out first.at) r.receiver m' (block_of out' r.at)) is h, (ef, en))
-
   pub heard_done : Ends task (record { number = first.record; byte = byte }) tp first.receiver m (block_of out first.at) r.receiver m' (block_of out' r.at)
       → r.from ≡ first.from + 8 + length tp → r.record ≡ sum_of first.record 1 → Heard task gone tp first m out r m' out'
   heard_done h ef en =
@@ -82,10 +77,6 @@ module _ {task : Task} {t : Stamp} {tp : List ℕ} {r : Receiver} {m : List ℕ}
 
 -- ---- a TP's record, and another
 
-pub does_heard : (said : Record) (n : ℕ) (task : Task) (gone : ℕ) (d : List ℕ) (first : Run) (m out : List ℕ) (r : Run) (m' out' : List ℕ) → said ≡ R.Packet n
-    → Heard task gone d first m out r m' out' → Does said task gone d first m out r m' out'
-does_heard said n task gone d first m out r m' out' e f = subst⁻¹ (λ (x : Record). Does x task gone d first m out r m' out') e f
-
 pub does_told : (said : Record) (task : Task) (gone : ℕ) (d : List ℕ) (first : Run) (m out : List ℕ) (r : Run) (m' out' : List ℕ) → ((n : ℕ) → said ≡ R.Packet n → ⊥)
     → Told first m out r m' out' → Does said task gone d first m out r m' out'
 does_told R.Setup task gone d first m out r m' out' other t = t
@@ -115,18 +106,18 @@ module _ (task : Task) (gone till : ℕ) (block : List ℕ) where
     abbrev u : List ℕ
     u = unread_in block run.from till
 
-    by_tp : (n : ℕ) → at_hand Listing u ≡ Whole (R.Packet n) → Heard task gone (data_in (R.Packet n) u) run m out r m' out' → Taken task gone till block first m₀ out₀ r m' out'
+    by_tp : (n : ℕ) → at_hand Listing u ≡ Ok (Some (R.Packet n)) → Heard task gone (data_in (R.Packet n) u) run m out r m' out' → Taken task gone till block first m₀ out₀ r m' out'
     by_tp n whole f =
         ⊎_elim
         (λ h. stands (standing first m₀ out₀) run.from run.record r.receiver m' (block_of out' r.at) r m' out' h.1.0 h.1.1 refl refl refl (pauses l whole (record { left = r.receiver; hears = h.0; alike = refl })))
         (λ h. stands (standing first m₀ out₀) (run.from + 8 + n) (sum_of run.record 1) r.receiver m' (block_of out' r.at) r m' out' (h.1.0 ∙ ap (λ (k : ℕ). run.from + 8 + k) (whole_data Listing u (R.Packet n) whole)) h.1.1 refl refl refl (ends l whole h.0))
         f
 
-    by_gap : at_hand Listing u ≡ Whole R.Gap → Told run m out r m' out' → Taken task gone till block first m₀ out₀ r m' out'
+    by_gap : at_hand Listing u ≡ Ok (Some R.Gap) → Told run m out r m' out' → Taken task gone till block first m₀ out₀ r m' out'
     by_gap whole t =
         stands (standing first m₀ out₀) (run.from + 8) (sum_of run.record 1) (gap_of run.receiver) m (block_of out run.at) r m' out' t.from t.number t.receiver t.room t.out (gap l whole)
 
-    by_record : (said : Record) → Read said → at_hand Listing u ≡ Whole said → Does said task gone (data_in said u) run m out r m' out' → Taken task gone till block first m₀ out₀ r m' out'
+    by_record : (said : Record) → Read said → at_hand Listing u ≡ Ok (Some said) → Does said task gone (data_in said u) run m out r m' out' → Taken task gone till block first m₀ out₀ r m' out'
     by_record R.Setup k whole d = absurd k
     by_record (R.Ordinary c n) k whole d = absurd k
     by_record (R.Low c n) k whole d = absurd k
@@ -134,7 +125,7 @@ module _ (task : Task) (gone till : ℕ) (block : List ℕ) where
     by_record (R.Packet n) k whole d = by_tp n whole d
     by_record R.Gap k whole d = by_gap whole d
 
-    pub taken_then : (said : Record) (x : List ℕ) → at_hand Listing u ≡ Whole said → x ≡ data_in said u → Does said task gone x run m out r m' out'
+    pub taken_then : (said : Record) (x : List ℕ) → at_hand Listing u ≡ Ok (Some said) → x ≡ data_in said u → Does said task gone x run m out r m' out'
         → Taken task gone till block first m₀ out₀ r m' out'
     taken_then said x whole is d =
         by_record said (listing_reads u said whole) whole (subst (λ (y : List ℕ). Does said task gone y run m out r m' out') is d)

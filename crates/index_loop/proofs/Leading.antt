@@ -38,8 +38,8 @@ use Rattle.index_loop.specs.declared.lanes.Left.TheVariants.{Nothing, All, From}
 use Rattle.index_loop.specs.declared.lanes.Noted.{Noted}
 use Rattle.index_loop.specs.declared.lanes.Part.{Part}
 use Rattle.index_loop.specs.declared.lanes.Part.TheVariants.{Within, Broken, Behind}
-use Rattle.index_loop.specs.declared.lanes.Way.{Way}
-use Rattle.index_loop.specs.declared.lanes.Way.TheVariants.{On, Off}
+use Rattle.std.specs.declared.ops.ControlFlow.{ControlFlow}
+use Rattle.std.specs.declared.ops.ControlFlow.TheVariants.{Continue, Break}
 use Rattle.index_loop.specs.Lanes.{met_text, low_text, Looked, SetOut, LeftBy, PartBy, BegunBy, start_stage, way_by, plain_at, part_by}
 use Rattle.index_loop.specs.Walking.{Ends, Pauses, block_of, puts}
 use Rattle.index_loop.proofs.Hearing.{pauses_none, pauses_as, pauses_then, pauses_last, pauses_on, pauses_ends}
@@ -75,9 +75,9 @@ module _ (covered : ℕ) (t : Stamp) (tp : List ℕ) (b : Receiver) (k : ℕ) (r
 
   -- ---- what is met
 
-  abbrev WayBy : Way → List ℕ → Block → Type 0
-  WayBy (On i) m' o' = Pauses (Index covered) t tp r m o (in_lane b k L.Idle Plain i) m' o'
-  WayBy (Off l) m' o' = LeftBy covered t tp b k r m o l m' o'
+  abbrev WayBy : ControlFlow Left ℕ → List ℕ → Block → Type 0
+  WayBy (Continue i) m' o' = Pauses (Index covered) t tp r m o (in_lane b k L.Idle Plain i) m' o'
+  WayBy (Break l) m' o' = LeftBy covered t tp b k r m o l m' o'
 
   pub by_met : (q : Met) (here : Left) (r' : Receiver) (m' m'' : List ℕ) (o' o'' : Block) → Pauses (Index covered) t tp r m o r' m' o' → LeftBy covered t tp b k r m o here m' o'
       → MetAs q b k t (call_by t r' tp m') tp m' m'' → o'' ≡ put o'.bytes o'.at (met_text covered t.number q) → WayBy (way_by q here) m'' o''
@@ -113,27 +113,22 @@ abbrev pub RanTo : ℕ → Stamp → ℕ → List ℕ → List ℕ → List ℕ 
 RanTo covered t begin tp m₀ out₀ held l m out n =
     (b : Receiver) (k : ℕ) → Lends b begin tp m₀ → LeftBy covered t tp b k (in_lane b k L.Idle Plain begin) m₀ (block_of out₀ held) l m (block_of out n)
 
-pub ran_plain : (covered : ℕ) (t : Stamp) (begin : ℕ) (tp m₀ out₀ : List ℕ) (held at : ℕ) (m out : List ℕ) (n : ℕ) (l : Left) → Ran covered t begin tp m₀ out₀ held at m out n
-    → l ≡ plain_at at → RanTo covered t begin tp m₀ out₀ held l m out n
-ran_plain covered t begin tp m₀ out₀ held at m out n l a e b k d =
-    subst⁻¹ (λ (x : Left). LeftBy covered t tp b k (in_lane b k L.Idle Plain begin) m₀ (block_of out₀ held) x m (block_of out n)) e (a b k d)
-
-module _ (covered : ℕ) (t : Stamp) (begin : ℕ) (tp m₀ out₀ : List ℕ) (held at : ℕ) (m out : List ℕ) (n : ℕ) (r : Noted) (m' out' : List ℕ) (here : Left) (w : Way)
+module _ (covered : ℕ) (t : Stamp) (begin : ℕ) (tp m₀ out₀ : List ℕ) (held at : ℕ) (m out : List ℕ) (n : ℕ) (r : Noted) (m' out' : List ℕ) (here : Left) (w : ControlFlow Left ℕ)
     (lent : Lent begin tp m₀ at m) (ran : Ran covered t begin tp m₀ out₀ held at m out n) (a : Looked covered at t tp m out n r m' out') (h : here ≡ plain_at at)
     (is : w ≡ way_by r.met here) where
   way_ran : (b : Receiver) (k : ℕ) → Lends b begin tp m₀ → WayBy covered t tp b k (in_lane b k L.Idle Plain begin) m₀ (block_of out₀ held) w m' (block_of out' r.at)
   way_ran b k d =
       let p = ran b k d in
-      subst⁻¹ (λ (x : Way). WayBy covered t tp b k (in_lane b k L.Idle Plain begin) m₀ (block_of out₀ held) x m' (block_of out' r.at)) (is ∙ ap (way_by r.met) h)
+      subst⁻¹ (λ (x : ControlFlow Left ℕ). WayBy covered t tp b k (in_lane b k L.Idle Plain begin) m₀ (block_of out₀ held) x m' (block_of out' r.at)) (is ∙ ap (way_by r.met) h)
       (by_met covered t tp b k (in_lane b k L.Idle Plain begin) m₀ (block_of out₀ held) r.met (plain_at at) (in_lane b k L.Idle Plain at) m m' (block_of out n) (block_of out' r.at) p p (a.met b k (lent b d)) a.text)
 
-  pub ran_on : (i : ℕ) → w ≡ On i → Ran covered t begin tp m₀ out₀ held i m' out' r.at
+  pub ran_on : (i : ℕ) → w ≡ Continue i → Ran covered t begin tp m₀ out₀ held i m' out' r.at
   ran_on i g b k d =
-      subst (λ (x : Way). WayBy covered t tp b k (in_lane b k L.Idle Plain begin) m₀ (block_of out₀ held) x m' (block_of out' r.at)) g (way_ran b k d)
+      subst (λ (x : ControlFlow Left ℕ). WayBy covered t tp b k (in_lane b k L.Idle Plain begin) m₀ (block_of out₀ held) x m' (block_of out' r.at)) g (way_ran b k d)
 
-  pub ran_off : (l : Left) → w ≡ Off l → RanTo covered t begin tp m₀ out₀ held l m' out' r.at
+  pub ran_off : (l : Left) → w ≡ Break l → RanTo covered t begin tp m₀ out₀ held l m' out' r.at
   ran_off l g b k d =
-      subst (λ (x : Way). WayBy covered t tp b k (in_lane b k L.Idle Plain begin) m₀ (block_of out₀ held) x m' (block_of out' r.at)) g (way_ran b k d)
+      subst (λ (x : ControlFlow Left ℕ). WayBy covered t tp b k (in_lane b k L.Idle Plain begin) m₀ (block_of out₀ held) x m' (block_of out' r.at)) g (way_ran b k d)
 
 -- ---- behind the low-latency part
 
@@ -142,21 +137,21 @@ abbrev pub OutTo : ℕ → Stamp → Lane → ℕ → ℕ → List ℕ → List 
 OutTo covered t l o at tp m out held x m' out' n =
     (b : Receiver) (k : ℕ) → Lends b at tp m → LeftBy covered t tp b k (in_lane b k l (Due o) at) m (block_of out held) x m' (block_of out' n)
 
-module _ (covered : ℕ) (t : Stamp) (l : Lane) (o at : ℕ) (tp m out : List ℕ) (held : ℕ) (r : Noted) (m' out' : List ℕ) (w : Way) (four : 4 ≤ at) (small : o < 2048)
+module _ (covered : ℕ) (t : Stamp) (l : Lane) (o at : ℕ) (tp m out : List ℕ) (held : ℕ) (r : Noted) (m' out' : List ℕ) (w : ControlFlow Left ℕ) (four : 4 ≤ at) (small : o < 2048)
     (a : SetOut covered l o at t tp m out held r m' out') (is : w ≡ way_by r.met (From l (Due o) at)) where
   way_out : (b : Receiver) (k : ℕ) → Lends b at tp m → WayBy covered t tp b k (in_lane b k l (Due o) at) m (block_of out held) w m' (block_of out' r.at)
   way_out b k d =
-      subst⁻¹ (λ (x : Way). WayBy covered t tp b k (in_lane b k l (Due o) at) m (block_of out held) x m' (block_of out' r.at)) is
+      subst⁻¹ (λ (x : ControlFlow Left ℕ). WayBy covered t tp b k (in_lane b k l (Due o) at) m (block_of out held) x m' (block_of out' r.at)) is
       (by_met covered t tp b k (in_lane b k l (Due o) at) m (block_of out held) r.met (From l (Due o) at) (in_lane b k l (Due o) at) m m' (block_of out held) (block_of out' r.at) pauses_none pauses_none (a.met b k t d four small) a.text)
 
-  pub out_off : (x : Left) → w ≡ Off x → OutTo covered t l o at tp m out held x m' out' r.at
-  out_off x g b k d = subst (λ (y : Way). WayBy covered t tp b k (in_lane b k l (Due o) at) m (block_of out held) y m' (block_of out' r.at)) g (way_out b k d)
+  pub out_off : (x : Left) → w ≡ Break x → OutTo covered t l o at tp m out held x m' out' r.at
+  out_off x g b k d = subst (λ (y : ControlFlow Left ℕ). WayBy covered t tp b k (in_lane b k l (Due o) at) m (block_of out held) y m' (block_of out' r.at)) g (way_out b k d)
 
-  pub out_on : (i : ℕ) (x : Left) (m'' out'' : List ℕ) (n : ℕ) → w ≡ On i → Lent at tp m i m' → RanTo covered t i tp m' out' r.at x m'' out'' n
+  pub out_on : (i : ℕ) (x : Left) (m'' out'' : List ℕ) (n : ℕ) → w ≡ Continue i → Lent at tp m i m' → RanTo covered t i tp m' out' r.at x m'' out'' n
       → OutTo covered t l o at tp m out held x m'' out'' n
   out_on i x m'' out'' n g lent ran b k d =
       left_on covered t tp b k (in_lane b k l (Due o) at) m (block_of out held) (in_lane b k L.Idle Plain i) m' (block_of out' r.at) x m'' (block_of out'' n)
-      (subst (λ (y : Way). WayBy covered t tp b k (in_lane b k l (Due o) at) m (block_of out held) y m' (block_of out' r.at)) g (way_out b k d)) (ran b k (lent b d))
+      (subst (λ (y : ControlFlow Left ℕ). WayBy covered t tp b k (in_lane b k l (Due o) at) m (block_of out held) y m' (block_of out' r.at)) g (way_out b k d)) (ran b k (lent b d))
 
 -- ---- the low-latency part
 
@@ -175,10 +170,6 @@ PartTo covered t low tp out held p out' n =
 pub part_of_none : (covered : ℕ) (t : Stamp) (low : Bool) (tp out : List ℕ) (held : ℕ) → low ≡ false → PartTo covered t low tp out held (Behind 4) out held
 part_of_none covered t low tp out held e b k l o m d y s =
     subst⁻¹ (λ (x : Bool). PartBy covered t tp b k l o (in_lane b k l (start_stage x o) 4) m (block_of out held) (Behind 4) (block_of out held)) e pauses_none
-
-pub part_within : (covered : ℕ) (t : Stamp) (low : Bool) (tp out : List ℕ) (held at : ℕ) (out' : List ℕ) (n : ℕ) → low ≡ true → RanLow covered t tp out held at out' n
-    → PartTo covered t low tp out held (Within at) out' n
-part_within covered t low tp out held at out' n e ran = subst⁻¹ (λ (x : Bool). PartTo covered t x tp out held (Within at) out' n) e ran
 
 module _ (covered : ℕ) (t : Stamp) (tp out₀ : List ℕ) (held at : ℕ) (out : List ℕ) (n : ℕ) (w : Lows) (out' : List ℕ) (n' : ℕ) (p : Part) (four : 4 ≤ at) (inside : at ≤ length tp)
     (ran : RanLow covered t tp out₀ held at out n) (is : w ≡ lows_of tp at) (text : block_of out' n' ≡ put out n (low_text covered t w)) (part : p ≡ part_by w) where

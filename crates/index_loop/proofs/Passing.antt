@@ -2,24 +2,21 @@
 use Prim.Native.Nat.{ℕ, ◌≤◌, ◌<◌}
 use mathlib.Core.Path.{◌≡◌, refl, ap, sym, subst, ◌∙◌}
 use mathlib.Core.Bool.{Bool, true, false, cond}
-use mathlib.Core.List.{List}
+use mathlib.Core.List.{List, []}
 use native.Mathlib.Omega.{arith}
 use lib.Dec.{eqb}
 use lib.ListN.{length}
 use borrow.Author.Tests.{eqb-true}
-use Rattle.block.specs.Block.{Block, put}
-use Rattle.indexing.specs.Lines.{new_text}
 use Rattle.receiver.specs.State.{Able}
 use Rattle.receiver.specs.Call.{Gave}
 use Rattle.receiver.specs.Lanes.{Tidy, LanedAs, Lends, MetAs, call_by, in_lane, top_in}
 use Rattle.receiver.specs.Lows.{lows_of}
 use Rattle.receiver.specs.Pieces.{top_of}
-use Rattle.receiver.specs.Place.{place_at}
 use Rattle.receiver.specs.declared.Find.{Find}
 use Rattle.receiver.specs.declared.Place.{Place}
 use Rattle.receiver.specs.declared.Receiver.{Receiver}
 use Rattle.receiver.specs.declared.Stage.{Stage}
-use Rattle.receiver.specs.declared.Stage.TheVariants.{Low, Due, Plain}
+use Rattle.receiver.specs.declared.Stage.TheVariants.{Due, Plain}
 use Rattle.receiver.specs.declared.Stamp.{Stamp}
 use Rattle.receiver.specs.declared.entry.Top.TheVariants.{Elsewhere, Says}
 use Rattle.receiver.specs.declared.lane.Lane.{Lane}
@@ -36,9 +33,9 @@ use Rattle.index_loop.specs.declared.lanes.Left.TheVariants.{From}
 use Rattle.index_loop.specs.declared.lanes.Noted.{Noted}
 use Rattle.index_loop.specs.declared.lanes.Part.{Part}
 use Rattle.index_loop.specs.declared.lanes.Part.TheVariants.{Within, Behind}
-use Rattle.index_loop.specs.declared.lanes.Way.{Way}
-use Rattle.index_loop.specs.declared.lanes.Way.TheVariants.{On, Off}
-use Rattle.index_loop.specs.Lanes.{low_text, Looked, SetOut, LeftFits, Leaves, PartFits, way_by, plain_at, part_by}
+use Rattle.std.specs.declared.ops.ControlFlow.{ControlFlow}
+use Rattle.std.specs.declared.ops.ControlFlow.TheVariants.{Continue, Break}
+use Rattle.index_loop.specs.Lanes.{met_text, low_text, Looked, SetOut, LeftFits, PartFits, way_by, plain_at, part_by}
 
 -- ---- what is left
 
@@ -52,9 +49,9 @@ plain_fits b at e = from_fits b L.Idle Plain at e (omega arith) (omega arith)
 
 -- ---- behind what is met
 
-abbrev WayFits : Receiver → Way → Type 0
-WayFits b (On i) = i ≤ b.size
-WayFits b (Off l) = LeftFits b l
+abbrev WayFits : Receiver → ControlFlow Left ℕ → Type 0
+WayFits b (Continue i) = i ≤ b.size
+WayFits b (Break l) = LeftFits b l
 
 way_fits : (b : Receiver) (q : Met) (here : Left) (k : ℕ) (t : Stamp) (g : Gave) (tp m m' : List ℕ) → length tp ≡ b.size → MetAs q b k t g tp m m' → LeftFits b here
     → WayFits b (way_by q here)
@@ -71,11 +68,8 @@ lends_on b at i tp m m' e s h = record { size = e.size; whole = e.whole; full = 
 abbrev pub Lent : ℕ → List ℕ → List ℕ → ℕ → List ℕ → Type 0
 Lent o tp m₀ at m = (b : Receiver) → Lends b o tp m₀ → Lends b at tp m
 
-pub plain_leaves : (o at : ℕ) (tp m₀ m : List ℕ) (l : Left) → Lent o tp m₀ at m → l ≡ plain_at at → Leaves o tp m₀ l
-plain_leaves o at tp m₀ m l n e b d = subst (LeftFits b) (sym e) (plain_fits b at (n b d))
-
 -- between two EPs
-module _ (o at : ℕ) (tp m₀ m m' : List ℕ) (covered : ℕ) (t : Stamp) (out out' : List ℕ) (held : ℕ) (r : Noted) (here : Left) (w : Way) (n : Lent o tp m₀ at m)
+module _ (o at : ℕ) (tp m₀ m m' : List ℕ) (covered : ℕ) (t : Stamp) (out out' : List ℕ) (held : ℕ) (r : Noted) (here : Left) (w : ControlFlow Left ℕ) (n : Lent o tp m₀ at m)
     (a : Looked covered at t tp m out held r m' out') (h : here ≡ plain_at at) (is : w ≡ way_by r.met here) where
   ahead_fits : (b : Receiver) → Lends b o tp m₀ → WayFits b w
   ahead_fits b d =
@@ -83,45 +77,22 @@ module _ (o at : ℕ) (tp m₀ m m' : List ℕ) (covered : ℕ) (t : Stamp) (out
       let f = way_fits b r.met (plain_at at) 0 t (call_by t (in_lane b 0 L.Idle Plain at) tp m) tp m m' e.whole (a.met b 0 e) (plain_fits b at e) in
       subst (WayFits b) (sym (is ∙ ap (way_by r.met) h)) f
 
-  pub ahead_lent : (i : ℕ) → w ≡ On i → length m' ≡ length m → Lent o tp m₀ i m'
+  pub ahead_lent : (i : ℕ) → w ≡ Continue i → length m' ≡ length m → Lent o tp m₀ i m'
   ahead_lent i g s b d = lends_on b at i tp m m' (n b d) s (subst (WayFits b) g (ahead_fits b d))
 
-  pub ahead_leaves : (l : Left) → w ≡ Off l → Leaves o tp m₀ l
-  ahead_leaves l g b d = subst (WayFits b) g (ahead_fits b d)
-
 -- behind the low-latency part
-module _ (l : Lane) (o at : ℕ) (tp m m' : List ℕ) (covered : ℕ) (t : Stamp) (out out' : List ℕ) (held : ℕ) (r : Noted) (w : Way) (tidy : Tidy (length m) l) (four : 4 ≤ at)
+module _ (l : Lane) (o at : ℕ) (tp m m' : List ℕ) (covered : ℕ) (t : Stamp) (out out' : List ℕ) (held : ℕ) (r : Noted) (w : ControlFlow Left ℕ) (tidy : Tidy (length m) l) (four : 4 ≤ at)
     (small : o < 2048) (a : SetOut covered l o at t tp m out held r m' out') (is : w ≡ way_by r.met (From l (Due o) at)) where
   out_fits : (b : Receiver) → Lends b at tp m → WayFits b w
   out_fits b e =
       let f = way_fits b r.met (From l (Due o) at) 0 t (call_by t (in_lane b 0 l (Due o) at) tp m) tp m m' e.whole (a.met b 0 t e four small) (from_fits b l (Due o) at e tidy (small, four)) in
       subst (WayFits b) (sym is) f
 
-  pub out_leaves : (x : Left) → w ≡ Off x → Leaves at tp m x
-  out_leaves x g b e = subst (WayFits b) g (out_fits b e)
-
-  pub out_lent : (i : ℕ) → w ≡ On i → length m' ≡ length m → Lent at tp m i m'
+  pub out_lent : (i : ℕ) → w ≡ Continue i → length m' ≡ length m → Lent at tp m i m'
   out_lent i g s b e = lends_on b at i tp m m' e s (subst (WayFits b) g (out_fits b e))
-
-  pub out_then : (i : ℕ) (x : Left) → w ≡ On i → length m' ≡ length m → Leaves i tp m' x → Leaves at tp m x
-  out_then i x g s v b e = v b (out_lent i g s b e)
-
-pub due_leaves : (l : Lane) (o at : ℕ) (tp m : List ℕ) → Tidy (length m) l → 4 ≤ at → o < 2048 → Leaves at tp m (From l (Due o) at)
-due_leaves l o at tp m t four small b e = from_fits b l (Due o) at e t (small, four)
-
-pub low_leaves : (l : Lane) (o at : ℕ) (p : Part) (tp m : List ℕ) → Tidy (length m) l → o < 2048 → PartFits (length tp) p → p ≡ Within at → Leaves 4 tp m (From l (Low o) at)
-low_leaves l o at p tp m t small f e b d =
-    let h = subst (PartFits (length tp)) e f in
-    from_fits b l (Low o) at (lends_on b 4 at tp m m d refl (omega (arith, h.1, d.whole))) t (small, h.0)
 
 pub behind_lent : (at : ℕ) (p : Part) (tp m : List ℕ) → PartFits (length tp) p → p ≡ Behind at → Lent 4 tp m at m
 behind_lent at p tp m f e b d = let h = subst (PartFits (length tp)) e f in lends_on b 4 at tp m m d refl (omega (arith, h.1, d.whole))
-
-pub behind_leaves : (at : ℕ) (p : Part) (tp m : List ℕ) (x : Left) → PartFits (length tp) p → p ≡ Behind at → Leaves at tp m x → Leaves 4 tp m x
-behind_leaves at p tp m x f e v b d = v b (behind_lent at p tp m f e b d)
-
-pub behind_four : (n at : ℕ) (p : Part) → PartFits n p → p ≡ Behind at → 4 ≤ at
-behind_four n at p f e = (subst (PartFits n) e f).0
 
 -- ---- the low-latency part
 
@@ -137,17 +108,19 @@ part_fits tp at r p four h e f = subst (PartFits (length tp)) (sym f) (by r (low
     by (W.End i) h = (omega (arith, h.0, four), h.1)
     by (W.Gives x y z more i) h = open_end more i (omega (arith, h.0, four)) h.1
 
-pub part_on : {f : Find} {e i : ℕ} {more : Bool} {n : ℕ} {r : Lows} → r ≡ W.Gives f e i more n → more ≡ true → Within n ≡ part_by r
-part_on {n = n} g h = sym (ap part_by g ∙ ap (λ (b : Bool). cond b (Within n) (Behind n)) h)
+-- ---- what has no line
 
-pub part_off : {f : Find} {e i : ℕ} {more : Bool} {n : ℕ} {r : Lows} → r ≡ W.Gives f e i more n → more ≡ false → Behind n ≡ part_by r
-part_off {n = n} g h = sym (ap part_by g ∙ ap (λ (b : Bool). cond b (Within n) (Behind n)) h)
+pub met_none : (covered n : ℕ) (q : Met) → ((c e : ℕ) (p : Place) (k i : ℕ) → q ≡ M.Gives c e p k i → ⊥) → met_text covered n q ≡ []
+met_none covered n M.Other other = refl
+met_none covered n (M.Drops k) other = refl
+met_none covered n (M.Ends l) other = refl
+met_none covered n (M.Reads i) other = refl
+met_none covered n (M.Gives c e p k i) other = absurd (other c e p k i refl)
 
--- its line
-pub low_noted : (covered : ℕ) (t : Stamp) (f : Find) (e i : ℕ) (more : Bool) (n : ℕ) (r : Lows) (p : Place) (d : List ℕ) (at : ℕ) (x : Block) → x ≡ put d at (new_text covered t.number p f) → p ≡ place_at t i
-    → r ≡ W.Gives f e i more n → x ≡ put d at (low_text covered t r)
-low_noted covered t f e i more n r p d at x h g is =
-    h ∙ ap (λ (p : Place). put d at (new_text covered t.number p f)) g ∙ ap (λ (r : Lows). put d at (low_text covered t r)) (sym is)
+pub low_none : (covered : ℕ) (t : Stamp) (q : Lows) → ((f : Find) (e i : ℕ) (more : Bool) (n : ℕ) → q ≡ W.Gives f e i more n → ⊥) → low_text covered t q ≡ []
+low_none covered t (W.Broken i) other = refl
+low_none covered t (W.End i) other = refl
+low_none covered t (W.Gives f e i more n) other = absurd (other f e i more n refl)
 
 -- ---- a TP's header, and a receiver's lane
 
@@ -161,9 +134,6 @@ says r tp low o e = by (eqb (length tp) r.size) refl e
 -- a TP in a lane, by what its payload leaves
 pub says_lends : (r : Receiver) (tp m : List ℕ) (low : Bool) (o : ℕ) → Able r → length m ≡ r.limit → top_in r tp ≡ Says low o → Lends r 4 tp m
 says_lends r tp m low o a f e = let w = (says r tp low o e).0 in record { size = a.size; whole = w; full = f; within = omega (arith, w, a.size) }
-
-pub says_leaves : (r : Receiver) (tp m : List ℕ) (low : Bool) (o : ℕ) (l : Left) → Able r → length m ≡ r.limit → top_in r tp ≡ Says low o → Leaves 4 tp m l → LeftFits r l
-says_leaves r tp m low o l a f e v = v r (says_lends r tp m low o a f e)
 
 pub laned : (l : Lane) (r : Receiver) → LanedAs l r → (l ≡ L.Other → 1 ≤ 0) → Tidy r.limit l
 laned L.Other r a n = n refl

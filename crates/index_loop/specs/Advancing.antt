@@ -1,11 +1,10 @@
 -- From block to block of a recording: the records at hand are taken, and where the next is not whole it is read anew with what follows it.
 -- The operating system decides which bytes those are, so no contract says them. Assumes nothing.
-use Rattle.std.specs.Prelude.{ℕ, ◌≡◌, List}
+use Rattle.std.specs.Prelude.{ℕ, ◌≡◌, List, Some, None, Ok, Err}
 use Rattle.block.specs.Block.{Block}
 use Rattle.console.specs.Taking.{begin_of, stretch}
 use Rattle.console.specs.declared.Unread.{Unread}
 use Rattle.house.specs.Slices.{at_hand}
-use Rattle.house.specs.declared.AtHand.TheVariants as A
 use Rattle.house.specs.declared.Fault.{Fault}
 use Rattle.house.specs.declared.Place.TheVariants.{Listing}
 use Rattle.house.specs.declared.Record.{Record}
@@ -19,15 +18,15 @@ use Rattle.index_loop.specs.Walking.{Standing, Takes, block_of}
 -- before the stretch u of the block d, whose records are taken as far as they are whole: a whole one is at hand all the same; a bad one; or part of one,
 -- which is read anew at its byte of the recording, unless the recording ends there or cannot be read
 pub data GoesOn (d : List ℕ) (u : Unread) : Stop → Unread → List ℕ → Type 0 where
-  whole : {r : Record} → at_hand Listing (stretch d u) ≡ A.Whole r → GoesOn d u More u d
-  bad : {f : Fault} → at_hand Listing (stretch d u) ≡ A.Bad f → GoesOn d u (Bad f) u d
-  read : {n : ℕ} {b : List ℕ} → at_hand Listing (stretch d u) ≡ A.Part → GoesOn d u More (record { gone = begin_of u; from = 0; till = n }) b
-  ended : {b : List ℕ} → at_hand Listing (stretch d u) ≡ A.Part → GoesOn d u End u b
-  unreadable : {b : List ℕ} → at_hand Listing (stretch d u) ≡ A.Part → GoesOn d u Unreadable u b
+  whole : {r : Record} → at_hand Listing (stretch d u) ≡ Ok (Some r) → GoesOn d u More u d
+  bad : {f : Fault} → at_hand Listing (stretch d u) ≡ Err f → GoesOn d u (Bad f) u d
+  read : {n : ℕ} {b : List ℕ} → at_hand Listing (stretch d u) ≡ Ok None → GoesOn d u More (record { gone = begin_of u; from = 0; till = n }) b
+  ended : {b : List ℕ} → at_hand Listing (stretch d u) ≡ Ok None → GoesOn d u End u b
+  unreadable : {b : List ℕ} → at_hand Listing (stretch d u) ≡ Ok None → GoesOn d u Unreadable u b
 
 -- where part of a record is at hand
 abbrev pub ReadsOn : List ℕ → Unread → Stop → Unread → List ℕ → Type 0
-ReadsOn d u s v b = at_hand Listing (stretch d u) ≡ A.Part → GoesOn d u s v b
+ReadsOn d u s v b = at_hand Listing (stretch d u) ≡ Ok None → GoesOn d u s v b
 
 -- where reading stands: the block with its stretch that is not yet taken, before the record with this number, with receiver, room and
 -- output block
@@ -56,9 +55,9 @@ pub data Advances (task : Task) (a : Reached) : Reached → Type 0 where
 -- why no more is read of the stretch u of d, which leaves the block d'
 abbrev pub StopsAt : List ℕ → Unread → Stop → List ℕ → Type 0
 StopsAt d u More d' = d' ≡ d
-StopsAt d u End d' = at_hand Listing (stretch d u) ≡ A.Part
-StopsAt d u (Bad f) d' = at_hand Listing (stretch d u) ≡ A.Bad f
-StopsAt d u Unreadable d' = at_hand Listing (stretch d u) ≡ A.Part
+StopsAt d u End d' = at_hand Listing (stretch d u) ≡ Ok None
+StopsAt d u (Bad f) d' = at_hand Listing (stretch d u) ≡ Err f
+StopsAt d u Unreadable d' = at_hand Listing (stretch d u) ≡ Ok None
 
 -- from walk to walk; in the last block nothing more came in unless there is more
 pub record Advanced (task : Task) (first : Walk) (d m o : List ℕ) (r : Walk) (d' m' o' : List ℕ) : Type 0 where

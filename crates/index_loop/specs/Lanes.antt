@@ -26,8 +26,8 @@ use Rattle.index_loop.specs.declared.lanes.Passed.{Passed}
 use Rattle.index_loop.specs.declared.Run.{Run}
 use Rattle.index_loop.specs.declared.Task.TheVariants.{Index}
 use Rattle.index_loop.specs.Walking.{Ends, Pauses, block_of}
-use Rattle.index_loop.specs.declared.lanes.Way.{Way}
-use Rattle.index_loop.specs.declared.lanes.Way.TheVariants.{On, Off}
+use Rattle.std.specs.declared.ops.ControlFlow.{ControlFlow}
+use Rattle.std.specs.declared.ops.ControlFlow.TheVariants.{Continue, Break}
 
 -- the line of a packet that is met in record n: by `MetAs` it is what the call gives there
 abbrev pub met_text : ℕ → ℕ → Met → List ℕ
@@ -68,12 +68,12 @@ abbrev pub plain_at : ℕ → Left
 plain_at i = From Idle Plain i
 
 -- where it goes on behind what is met; what is left here, where that is left to a call
-abbrev pub way_by : Met → Left → Way
-way_by M.Other here = Off here
-way_by (M.Drops k) here = Off (Nothing Lost)
-way_by (M.Ends l) here = Off (Nothing l)
-way_by (M.Reads i) here = On i
-way_by (M.Gives c e p len end) here = On end
+abbrev pub way_by : Met → Left → ControlFlow Left ℕ
+way_by M.Other here = Break here
+way_by (M.Drops k) here = Break (Nothing Lost)
+way_by (M.Ends l) here = Break (Nothing l)
+way_by (M.Reads i) here = Continue i
+way_by (M.Gives c e p len end) here = Continue end
 
 -- the low-latency part of a TP of n bytes, from place 4 on
 abbrev pub PartFits : ℕ → Part → Type 0

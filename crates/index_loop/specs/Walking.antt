@@ -1,11 +1,10 @@
 -- What holds from find to find, from record to record and from block to block: the receiver can be called again, what is taken
 -- lies within the input block, what is put for a find, and that what is put and where receiver and room are left is what the calls
 -- give that the records taken ask for. Assumes nothing.
-use Rattle.std.specs.Prelude.{ℕ, ◌+◌, ◌≤◌, min, ◌≡◌, true, false, ◌⊎◌, List, length}
+use Rattle.std.specs.Prelude.{ℕ, ◌+◌, ◌≤◌, min, ◌≡◌, true, false, ◌⊎◌, List, length, Some, Ok}
 use Rattle.block.specs.Block.{Block, put}
 use Rattle.house.specs.Series.{unread_in}
 use Rattle.house.specs.Slices.{at_hand, data_in}
-use Rattle.house.specs.declared.AtHand.TheVariants.{Whole}
 use Rattle.house.specs.declared.Place.TheVariants.{Listing}
 use Rattle.house.specs.declared.Record.{Record}
 use Rattle.house.specs.declared.Record.TheVariants as R
@@ -151,14 +150,14 @@ standing r m out = record { from = r.from; number = r.record; receiver = r.recei
 pub data Takes (task : Task) (gone till : ℕ) (block : List ℕ) (a : Standing) : Standing → Type 0 where
   stays : Takes task gone till block a a
   pauses : {b : Standing} {n : ℕ} {r : Receiver} {m : List ℕ} {o : Block} → Takes task gone till block a b
-      → at_hand Listing (unread_in block b.from till) ≡ Whole (R.Packet n)
+      → at_hand Listing (unread_in block b.from till) ≡ Ok (Some (R.Packet n))
       → Pauses task (stamp_of gone b.number b.from) (data_in (R.Packet n) (unread_in block b.from till)) b.receiver b.room b.out r m o
       → Takes task gone till block a (record { from = b.from; number = b.number; receiver = r; room = m; out = o })
   ends : {b : Standing} {n : ℕ} {r : Receiver} {m : List ℕ} {o : Block} → Takes task gone till block a b
-      → at_hand Listing (unread_in block b.from till) ≡ Whole (R.Packet n)
+      → at_hand Listing (unread_in block b.from till) ≡ Ok (Some (R.Packet n))
       → Ends task (stamp_of gone b.number b.from) (data_in (R.Packet n) (unread_in block b.from till)) b.receiver b.room b.out r m o
       → Takes task gone till block a (record { from = b.from + 8 + n; number = sum_of b.number 1; receiver = r; room = m; out = o })
-  gap : {b : Standing} → Takes task gone till block a b → at_hand Listing (unread_in block b.from till) ≡ Whole R.Gap
+  gap : {b : Standing} → Takes task gone till block a b → at_hand Listing (unread_in block b.from till) ≡ Ok (Some R.Gap)
       → Takes task gone till block a (record { from = b.from + 8; number = sum_of b.number 1; receiver = gap_of b.receiver; room = b.room; out = b.out })
 
 -- from run to run

@@ -11,8 +11,7 @@ ghost use Rattle.index_loop.specs.Walking.{text_of, Found, Onward, Ready, Ahead,
 mod lanes;
 
 use console::Unread;
-use files::Got;
-use house::{AtHand, Fault, Place, Record};
+use house::{Fault, Place, Record};
 use jumping::Wanted;
 use receiver::{Find, Place as Began, Receiver, Stamp};
 use std::fs::File;
@@ -27,6 +26,7 @@ const RECORDS: u64 = 16384;
 const BLOCKS: u64 = 512;
 
 // What is put for a find: its line, where its record is not covered; or its record, if it is the packet asked for.
+// An enum, and no trait of two tasks: `Writes` of crates/indexed names `Index`.
 #[derive(Clone, Copy)]
 pub enum Task {
     Index(u64),
@@ -109,16 +109,13 @@ fn find(
     ensures { Found task r stamp tp.now room.old out.old at result room.new out.new }
 {
     let step = receiver::next_as(r, stamp, tp, room);
-    let receiver = step.receiver;
     let find = step.find;
-    let began = step.about.at;
     let data = receiver::found(tp, room, find);
-    let held = put(task, stamp.number, began, find, data, out, at);
-    let lasts = receiver::lasts(find);
+    let held = put(task, stamp.number, step.about.at, find, data, out, at);
     Went {
-        receiver,
+        receiver: step.receiver,
         at: held,
-        lasts,
+        lasts: receiver::lasts(find),
     }
 }
 
@@ -137,43 +134,27 @@ fn finds(
     ensures onward { Onward first (length tp.now) result }
     ensures heard { Heard task gone tp.now first room.old out.old result room.new out.new }
 {
-    let record = first.record;
-    let from = first.from;
     let stamp = Stamp {
-        number: record,
-        byte: files::sum(gone, from as u64),
+        number: first.record,
+        byte: files::sum(gone, first.from as u64),
     };
-    let mut receiver = first.receiver;
-    let mut at = first.at;
-    let mut left = FINDS;
-    while 0 < left {
-        if full <= at {
-            return Run {
-                receiver,
-                record,
-                at,
-                from,
-            };
+    let mut run = first;
+    for _ in 0..FINDS {
+        if full <= run.at {
+            return run;
         }
-        let went = find(task, receiver, stamp, tp, room, out, at);
-        receiver = went.receiver;
-        at = went.at;
+        let went = find(task, run.receiver, stamp, tp, room, out, run.at);
+        run.receiver = went.receiver;
+        run.at = went.at;
         if !went.lasts {
             return Run {
-                receiver,
-                record: files::sum(record, 1),
-                at,
-                from: from + 8 + tp.len(),
+                record: files::sum(first.record, 1),
+                from: first.from + 8 + tp.len(),
+                ..run
             };
         }
-        left -= 1;
     }
-    Run {
-        receiver,
-        record,
-        at,
-        from,
-    }
+    run
 }
 
 // What one record does; kinds other than 4 and 5 are not read here.
@@ -192,15 +173,14 @@ fn turn(
     ensures onward { Onward run (length «data».now) result }
     ensures does { Does said task gone «data».now run room.old out.old result room.new out.new }
 {
-    if let Record::Packet { length: _ } = said {
+    if let Record::Packet { .. } = said {
         return finds(task, full, gone, run, data, room, out);
     }
-    let receiver = run.receiver;
     Run {
-        receiver: receiver::gap(receiver),
+        receiver: receiver::gap(run.receiver),
         record: files::sum(run.record, 1),
-        at: run.at,
         from: run.from + 8,
+        ..run
     }
 }
 
@@ -220,28 +200,17 @@ fn turns(
     ensures taken { Taken task gone till block.now first room.old out.old result room.new out.new }
 {
     let mut run = first;
-    let mut left = RECORDS;
-    while 0 < left {
+    for _ in 0..RECORDS {
         if full <= run.at {
             return run;
         }
         run = lanes::pass_all(task, full, gone, run, till, block, room, out);
-        let from = run.from;
-        let unread = &block[from..till];
-        let AtHand::Whole(said) = house::read_record(Place::Listing, unread) else {
+        let unread = &block[run.from..till];
+        let Ok(Some(said)) = house::read_record(Place::Listing, unread) else {
             return run;
         };
-        run = turn(
-            task,
-            full,
-            gone,
-            run,
-            said,
-            house::data_of(said, unread),
-            room,
-            out,
-        );
-        left -= 1;
+        let data = house::data_of(said, unread);
+        run = turn(task, full, gone, run, said, data, room, out);
     }
     run
 }
@@ -252,29 +221,26 @@ fn read_on(file: &File, block: &mut [u8], unread: Unread) -> Next
     ensures lies { Lies (length block.new) result.unread }
     ensures reads_on { ReadsOn block.old unread result.stop result.unread block.new }
 {
-    let begin = files::sum(unread.gone, unread.from as u64);
-    let n = unread.till - unread.from;
-    match files::read_at(file, begin, block) {
-        Got::Failed => Next {
+    let begin = console::begin_of(unread);
+    let Some(count) = files::read_at(file, begin, block) else {
+        return Next {
             unread,
             stop: Stop::Unreadable,
+        };
+    };
+    if count <= unread.till - unread.from {
+        return Next {
+            unread,
+            stop: Stop::End,
+        };
+    }
+    Next {
+        unread: Unread {
+            gone: begin,
+            from: 0,
+            till: count,
         },
-        Got::Bytes(count) => {
-            if count <= n {
-                return Next {
-                    unread,
-                    stop: Stop::End,
-                };
-            }
-            Next {
-                unread: Unread {
-                    gone: begin,
-                    from: 0,
-                    till: count,
-                },
-                stop: Stop::More,
-            }
-        }
+        stop: Stop::More,
     }
 }
 
@@ -284,17 +250,12 @@ fn go_on(file: &File, block: &mut [u8], unread: Unread) -> Next
     ensures lies { Lies (length block.new) result.unread }
     ensures goes_on { GoesOn block.old unread result.stop result.unread block.new }
 {
-    match house::read_record(Place::Listing, console::bytes_of(block, unread)) {
-        AtHand::Bad(fault) => Next {
-            unread,
-            stop: Stop::Bad(fault),
-        },
-        AtHand::Whole(_) => Next {
-            unread,
-            stop: Stop::More,
-        },
-        AtHand::Part => read_on(file, block, unread),
-    }
+    let stop = match house::read_record(Place::Listing, console::bytes_of(block, unread)) {
+        Ok(None) => return read_on(file, block, unread),
+        Ok(Some(_)) => Stop::More,
+        Err(fault) => Stop::Bad(fault),
+    };
+    Next { unread, stop }
 }
 
 // Reads on from a record, until so much of the output block is held, the recording ends, or many blocks are read.
@@ -311,54 +272,35 @@ pub fn advance(
     ensures walked { Walked (length block.new) result }
     ensures advanced { Advanced task first block.old room.old out.old result block.new room.new out.new }
 {
-    let mut receiver = first.receiver;
-    let mut record = first.record;
-    let mut at = first.at;
-    let mut unread = first.unread;
-    let mut left = BLOCKS;
-    while 0 < left {
-        let gone = unread.gone;
-        let till = unread.till;
+    let mut walk = first;
+    for _ in 0..BLOCKS {
+        let unread = walk.unread;
         let run = Run {
-            receiver,
-            record,
-            at,
+            receiver: walk.receiver,
+            record: walk.record,
+            at: walk.at,
             from: unread.from,
         };
-        let ahead = turns(task, full, gone, run, till, block, room, out);
-        receiver = ahead.receiver;
-        record = ahead.record;
-        at = ahead.at;
-        let from = ahead.from;
-        let next = go_on(file, block, Unread { gone, from, till });
-        unread = next.unread;
-        let stop = next.stop;
-        let Stop::More = stop else {
-            return Walk {
-                receiver,
-                record,
-                at,
-                unread,
-                stop,
-            };
+        let ahead = turns(task, full, unread.gone, run, unread.till, block, room, out);
+        let rest = Unread {
+            from: ahead.from,
+            ..unread
         };
-        if full <= at {
-            return Walk {
-                receiver,
-                record,
-                at,
-                unread,
-                stop,
-            };
+        let next = go_on(file, block, rest);
+        walk = Walk {
+            receiver: ahead.receiver,
+            record: ahead.record,
+            at: ahead.at,
+            unread: next.unread,
+            stop: next.stop,
+        };
+        if !matches!(walk.stop, Stop::More) || full <= walk.at {
+            return walk;
         }
-        left -= 1;
     }
     Walk {
-        receiver,
-        record,
-        at,
-        unread,
         stop: Stop::More,
+        ..walk
     }
 }
 
@@ -387,14 +329,5 @@ pub fn emptied(walk: Walk) -> Walk
     ensures unread_value { (result.unread ≡ walk.unread) × Able result.receiver }
     ensures empties { Empties walk result }
 {
-    let receiver = walk.receiver;
-    let unread = walk.unread;
-    let stop = walk.stop;
-    Walk {
-        receiver,
-        record: walk.record,
-        at: 0,
-        unread,
-        stop,
-    }
+    Walk { at: 0, ..walk }
 }

@@ -6,12 +6,12 @@ use mathlib.Core.List.{List, [], ◌∷◌, ◌++◌, append_assoc, append-nil}
 use native.Mathlib.Omega.{arith}
 use lib.ListN.{length, take, drop, length-take, take-append-drop}
 use lib.Seq.{drop-drop}
+use Rattle.std.specs.Prelude.{Ok, Some}
 use Rattle.block.specs.Block.{Block}
 use Rattle.console.proofs.Onward.{unread_behind}
 use Rattle.house.specs.Records.{length_of}
 use Rattle.house.specs.Series.{unread_in}
 use Rattle.house.specs.Slices.{at_hand, data_in}
-use Rattle.house.specs.declared.AtHand.TheVariants.{Whole}
 use Rattle.house.specs.declared.Place.TheVariants.{Listing}
 use Rattle.house.specs.declared.Record.{Record}
 use Rattle.house.proofs.Slicing.{whole_fits, more_whole, more_data}
@@ -48,8 +48,8 @@ module _ (recording block : List ℕ) (gone from till : ℕ) (shows : unread_in 
   parts : unread_in block from till ++ drop (till - from) there ≡ there
   parts = ap (λ (l : List ℕ). l ++ drop (till - from) there) front ∙ take-append-drop (till - from) there
 
-  module _ (said : Record) (whole : at_hand Listing (unread_in block from till) ≡ Whole said) where
-    pub whole_there : at_hand Listing there ≡ Whole said
+  module _ (said : Record) (whole : at_hand Listing (unread_in block from till) ≡ Ok (Some said)) where
+    pub whole_there : at_hand Listing there ≡ Ok (Some said)
     whole_there = ap (at_hand Listing) (sym parts) ∙ more_whole Listing (unread_in block from till) (drop (till - from) there) said whole
 
     pub data_there : data_in said (unread_in block from till) ≡ data_in said there

@@ -3,11 +3,11 @@
 use Prim.Native.Nat.{ℕ, zero, suc, ◌-◌, ◌/◌, ◌%◌, ◌<◌}
 use mathlib.Core.Path.{◌≡◌, refl, sym, ap, ◌∙◌, subst}
 use mathlib.Core.Bool.{Bool, cond}
-use mathlib.Core.Option.{none, some}
 use mathlib.Core.List.{List, [], ◌∷◌, ◌++◌, map}
 use native.Mathlib.Omega.{arith}
 use lib.ListN.{length, take, drop}
 use borrow.Author.Tests.{ne_eqb}
+use Rattle.std.specs.Prelude.{Option, None, Some}
 use Rattle.digits.specs.Digits.{digits}
 use Rattle.wire.specs.declared.Header.{Header}
 use Rattle.receiver.specs.declared.Place.{Place}
@@ -15,10 +15,7 @@ use Rattle.receiver.specs.declared.Receiver.{Receiver}
 use Rattle.receiver.specs.declared.Stage.{Stage}
 use Rattle.receiver.specs.declared.Stage.TheVariants as S
 use Rattle.receiver.specs.declared.Stamp.{Stamp}
-use Rattle.receiver.specs.declared.Opened.TheVariants.{Ready}
-use Rattle.receiver.specs.declared.Unfinished.TheVariants as U
 use Rattle.receiver.specs.declared.walk.Kept.{Kept}
-use Rattle.receiver.specs.declared.walk.Kept.TheVariants.{Empty, Of}
 use Rattle.receiver.specs.declared.walk.Phase.{Phase}
 use Rattle.receiver.specs.declared.walk.Phase.TheVariants.{Lost, Head, Judged, Body}
 use Rattle.receiver.specs.Join.{Finding}
@@ -109,14 +106,14 @@ reads_are s {p} {r} {m} y (gap_on {q = q} {xs = xs} {gs = gs} g l) =
 
 -- ---- what is unfinished
 
-headed_on : (g : Place) (ds : List ℕ) (d : ℕ) → under_way (headed g (ds ++ d ∷ [])) ≡ some g
+headed_on : (g : Place) (ds : List ℕ) (d : ℕ) → under_way (headed g (ds ++ d ∷ [])) ≡ Some g
 headed_on g [] d = refl
 headed_on g (x ∷ ds) d = refl
 
 begun_head : (n w : ℕ) (g : Place) → stamp_by (C.under_way (Head n w) g) ≡ stamp_in (under_way (frame_of g (Head n w)))
 begun_head zero w g = refl
 begun_head (suc k) w g =
-    ap (λ (b : Bool). stamp_by (cond b U.Nothing (U.From g))) (ne_eqb (suc k) 0 (λ e. omega arith)) ∙ ap stamp_in (sym (headed_on g (digits k (w / 256)) (w % 256)))
+    ap (λ (b : Bool). stamp_by (cond b None (Some g))) (ne_eqb (suc k) 0 (λ e. omega arith)) ∙ ap stamp_in (sym (headed_on g (digits k (w / 256)) (w % 256)))
 
 begun_body : (h : Header) (n : ℕ) (g : Place) → 0 < n → stamp_by (C.under_way (Body h n) g) ≡ stamp_in (under_way (frame_of g (Body h n)))
 begun_body h zero g l = absurd (omega arith)
@@ -128,9 +125,9 @@ under_way_lem (Head n w) g z = begun_head n w g
 under_way_lem (Judged h) g z = absurd (omega arith)
 under_way_lem (Body h n) g z = begun_body h n g z
 
-pending_is : (k : Kept) (p : Phase) (g : Place) (m : List ℕ) → Settled p → stamp_by (C.pending_by k p g) ≡ stamp_in (unfinished (held_of k m) (frame_of g p))
-pending_is Empty p g m z = under_way_lem p g z
-pending_is (Of c e b n) p g m z = refl
+pending_is : (k : Option Kept) (p : Phase) (g : Place) (m : List ℕ) → Settled p → stamp_by (C.pending_by k p g) ≡ stamp_in (unfinished (held_of k m) (frame_of g p))
+pending_is None p g m z = under_way_lem p g z
+pending_is (Some k) p g m z = refl
 
 -- between two TPs `receiver::pending` tells what line 0 names
 pub pending_since : (s : Setting) (r : Receiver) (m : List ℕ) → ReadyFor s r m → stamp_by (pending_of r.walk) ≡ since_of (stand_of r m)
@@ -138,7 +135,7 @@ pending_since s r m y = pending_is r.walk.kept r.walk.phase r.walk.began m (subs
 
 -- ---- from an opening on
 
-module _ (size stream : ℕ) (m : List ℕ) (r : Receiver) (o : OpenedAs size stream (length m) (Ready r)) where
+module _ (size stream : ℕ) (m : List ℕ) (r : Receiver) (o : OpenedAs size stream (length m) (Some r)) where
   abbrev set : Setting
   set = record { size = size; stream = stream; room = length m }
 
@@ -167,7 +164,7 @@ module _ (size stream : ℕ) (m : List ℕ) (r : Receiver) (o : OpenedAs size st
   -- GROWN: the covered records from the one that line 0 names on are only read; the lines are those of the new ones
   pub grown_on : (xs : List Input) {q p : Stamp} {ys : List Input} {fs gs : List (Finding wire)} {r₁ r₂ : Receiver} {m₁ m₂ : List ℕ}
       → Reads q r m (drop (q.number - 1) xs) fs r₁ m₁ → Reads p r₁ m₁ ys gs r₂ m₂
-      → (map line_by (handed wire gs) ≡ new_lines set p (some q) xs ys) × (stamp_by (pending_of r₂.walk) ≡ new_since set p (some q) xs ys)
+      → (map line_by (handed wire gs) ≡ new_lines set p (Some q) xs ys) × (stamp_by (pending_of r₂.walk) ≡ new_since set p (Some q) xs ys)
   grown_on xs {q} {p} {ys} {fs} {gs} {r₁} {r₂} {m₁} {m₂} l k =
       let c = from_here l in
       let d = reads_are set c.ready k in (
@@ -177,7 +174,7 @@ module _ (size stream : ℕ) (m : List ℕ) (r : Receiver) (o : OpenedAs size st
 
   -- or all are new ones
   pub grown_afresh : (xs : List Input) {p : Stamp} {ys : List Input} {gs : List (Finding wire)} {r₂ : Receiver} {m₂ : List ℕ} → Reads p r m ys gs r₂ m₂
-      → (map line_by (handed wire gs) ≡ new_lines set p none xs ys) × (stamp_by (pending_of r₂.walk) ≡ new_since set p none xs ys)
+      → (map line_by (handed wire gs) ≡ new_lines set p None xs ys) × (stamp_by (pending_of r₂.walk) ≡ new_since set p None xs ys)
   grown_afresh xs {p} {ys} {gs} {r₂} {m₂} k =
       let d = from_here k in
       (ap (map line_by) d.hands ∙ sym (lines_are set ys p fresh), pending_since set r₂ m₂ d.ready ∙ ap since_of d.stands)
@@ -186,5 +183,5 @@ module _ (size stream : ℕ) (m : List ℕ) (r : Receiver) (o : OpenedAs size st
   pub finds_it : (xs : List Input) (before after : List (Packet wire)) (q : Packet wire) {fs : List (Finding wire)} {r' : Receiver} {m' : List ℕ}
       → handed_out set xs ≡ before ++ q ∷ after
       → Reads (behind_all start_stamp (take ((line_by q).begun - 1) xs)) r m (drop ((line_by q).begun - 1) xs) fs r' m'
-      → first (chosen (sought (line_by q)) (handed wire fs)) ≡ some q
+      → first (chosen (sought (line_by q)) (handed wire fs)) ≡ Some q
   finds_it xs before after q e l = ap (λ (qs : List (Packet wire)). first (chosen (sought (line_by q)) qs)) (from_here l).hands ∙ from_line set xs before after q e

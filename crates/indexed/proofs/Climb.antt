@@ -2,11 +2,11 @@
 use Prim.Native.Nat.{ℕ, zero, suc, ◌+◌, ◌-◌, ◌≤◌, ◌%◌}
 use mathlib.Core.Path.{◌≡◌, refl, subst}
 use mathlib.Core.Bool.{Bool, true, false, cond}
-use mathlib.Core.Option.{Option, none, some}
 use mathlib.Core.List.{List, [], ◌∷◌, ◌++◌, map}
 use native.Mathlib.Omega.{arith}
 use lib.Dec.{eqb, leb, ltb}
 use lib.ListN.{length, take, drop, get_or}
+use Rattle.std.specs.Prelude.{Option, None, Some}
 use Rattle.wire.specs.declared.Header.{Header}
 use Rattle.wire.specs.Reading.{tp_number_in, stream_of, version_of}
 use Rattle.digits.specs.Digits.{number}
@@ -14,8 +14,6 @@ use Rattle.receiver.specs.declared.Stamp.{Stamp}
 use Rattle.receiver.specs.declared.Place.{Place}
 use Rattle.receiver.specs.declared.kind.Kind.{Kind}
 use Rattle.receiver.specs.declared.kind.Kind.TheVariants as K
-use Rattle.receiver.specs.declared.low.Llep.{Llep}
-use Rattle.receiver.specs.declared.low.Llep.TheVariants.{Broken, Whole}
 use Rattle.receiver.specs.Place.{place_at, start_of, placed}
 use Rattle.receiver.specs.Kind.{kind_of}
 use Rattle.receiver.specs.Forecast.{drops, goes, way_at}
@@ -86,14 +84,14 @@ given_climbs K.Last p h bs fs c = later_lows p.stamp p.at fs c
 abbrev PartFrom : Stamp → ℕ → Part → Type 0
 PartFrom t i q = LowsFrom t (i - 4) q.finds × (i ≤ q.from)
 
-walked_climbs : (o : Llep) (t : Stamp) (i : ℕ) (bs : List ℕ) (on : ℕ → List ℕ → Part) → 4 ≤ i
+walked_climbs : (o : Option (Header × Bool)) (t : Stamp) (i : ℕ) (bs : List ℕ) (on : ℕ → List ℕ → Part) → 4 ≤ i
     → ((j : ℕ) (rest : List ℕ) → 4 ≤ j → PartFrom t j (on j rest)) → PartFrom t i (walked o t i bs on)
-walked_climbs Broken t i bs on l c = ((tt, tt), (omega arith))
-walked_climbs (Whole h more) t i bs on l c =
+walked_climbs None t i bs on l c = ((tt, tt), (omega arith))
+walked_climbs (Some (h, more)) t i bs on l c =
     (given_climbs (kind_of h) (place_at t i) h bs (rest more).finds (go more).0, (go more).1)
   where
     rest : Bool → Part
-    rest b = cond b (on (i + 7 + h.size) (drop (7 + h.size) bs)) (record { finds = []; behind = some (drop (7 + h.size) bs); from = i + 7 + h.size })
+    rest b = cond b (on (i + 7 + h.size) (drop (7 + h.size) bs)) (record { finds = []; behind = Some (drop (7 + h.size) bs); from = i + 7 + h.size })
 
     go : (b : Bool) → LowsFrom t (suc (i - 4)) (rest b).finds × (i ≤ (rest b).from)
     go false = ((tt, tt), (omega arith))
@@ -122,8 +120,8 @@ pub record Climbing (t : Stamp) (x : Brings) : Type 0 where
   pub sorts : All Low (handed wire x.lows)
 
 behind_climbs : (q : Part) (o : Option (List ℕ)) (t : Stamp) (offset : ℕ) (payload : List ℕ) → PartFrom t 4 q → Climbing t (behind q o t offset payload)
-behind_climbs q none t offset payload c = record { marked = tt; lows = c.0.0; sorts = c.0.1 }
-behind_climbs q (some bs) t offset payload c =
+behind_climbs q None t offset payload c = record { marked = tt; lows = c.0.0; sorts = c.0.1 }
+behind_climbs q (Some bs) t offset payload c =
     let l = c.1 in
     let i : ℕ = q.from in
     record {
@@ -134,8 +132,8 @@ behind_climbs q (some bs) t offset payload c =
     }
 
 word_climbs : (o : Option ℕ) (t : Stamp) (payload : List ℕ) → Climbing t (worded o t payload)
-word_climbs none t payload = record { marked = tt; lows = tt; sorts = tt }
-word_climbs (some w) t payload =
+word_climbs None t payload = record { marked = tt; lows = tt; sorts = tt }
+word_climbs (Some w) t payload =
     behind_climbs (low_part_if (leb 2048 w) t payload) (low_part_if (leb 2048 w) t payload).behind t (w % 2048) payload (if_climbs (leb 2048 w) t payload)
 
 brings_climb : (s : Setting) (t : Stamp) (tp : List ℕ) → Climbing t (brings s (always t) tp)

@@ -4,11 +4,12 @@ use mathlib.Core.Path.{◌≡◌, refl, ap, sym, subst, ◌∙◌}
 use mathlib.Core.List.{List, ◌++◌}
 use native.Mathlib.Omega.{arith}
 use lib.ListN.{length, take}
+use Rattle.std.specs.Prelude.{Option, Some, None, Result, Ok, Err}
+use Rattle.house.specs.declared.Fault.{Fault}
+use Rattle.house.specs.declared.Record.{Record}
 use Rattle.console.specs.declared.Unread.{Unread}
-use Rattle.house.specs.declared.AtHand.TheVariants as A
 use Rattle.receiver.specs.Call.{OpenedAs}
 use Rattle.receiver.specs.State.{Able}
-use Rattle.receiver.specs.declared.Opened.TheVariants.{Ready}
 use Rattle.receiver.specs.declared.Receiver.{Receiver}
 use Rattle.receiver.specs.declared.Stamp.{Stamp}
 use Rattle.receiver.proofs.Listening.{opened_fresh}
@@ -21,7 +22,7 @@ use Rattle.index_loop.specs.declared.Walk.{Walk}
 use Rattle.indexed.specs.Loop.{Of, Roomy, emptied, Begins, Writes, onward, Ended}
 
 -- a receiver is opened, and the walk started at the record p
-pub begins : (size stream : ℕ) (p : Stamp) (x : Receiver) (walk : Walk) (d m out : List ℕ) → OpenedAs size stream (length m) (Ready x) → Starts x p.number p.byte walk
+pub begins : (size stream : ℕ) (p : Stamp) (x : Receiver) (walk : Walk) (d m out : List ℕ) → OpenedAs size stream (length m) (Some x) → Starts x p.number p.byte walk
     → Begins (record { size = size; stream = stream; room = length m }) p (reached walk d m out)
 begins size stream p x walk d m out o w = record {
   receiver = w.receiver ∙ opened_fresh size stream (length m) x o;
@@ -58,11 +59,11 @@ module _ (covered : ℕ) (recording : List ℕ) (a : Reached) (written : List �
   pub ended : (r.stop ≡ More → ⊥) → Ended (emptied (reached r k.last m' out'))
   ended other said whole = by r.stop other k.stop
     where
-      part : A.Whole said ≡ A.Part → ⊥
+      part : ◌≡◌ {A = Result (Option Record) Fault} (Ok (Some said)) (Ok None) → ⊥
       part e = let z : ◌≡◌ {A = ℕ} 0 1 = cc in omega arith
 
       by : (s : Stop) → (s ≡ More → ⊥) → StopsAt k.last r.unread s d' → ⊥
       by More o e = o refl
       by End o e = part (sym whole ∙ e)
-      by (Bad f) o e = let both : A.Whole said ≡ A.Bad f = sym whole ∙ e in let z : ◌≡◌ {A = ℕ} 0 1 = cc in omega arith
+      by (Bad f) o e = let both : ◌≡◌ {A = Result (Option Record) Fault} (Ok (Some said)) (Err f) = sym whole ∙ e in let z : ◌≡◌ {A = ℕ} 0 1 = cc in omega arith
       by Unreadable o e = part (sym whole ∙ e)

@@ -2,11 +2,11 @@
 -- Assumes nothing.
 use mathlib.Core.Path.{◌≡◌, refl, ap, ap₂, ◌∙◌}
 use mathlib.Core.Bool.{true, false}
-use mathlib.Core.Option.{Option, none, some}
 use mathlib.Core.List.{List, [], ◌∷◌, ◌++◌}
 use Prim.Native.Nat.{ℕ}
 use lib.Count.{ones_in}
 use lib.ListN.{drop}
+use Rattle.std.specs.Prelude.{Option, None, Some}
 use Rattle.golay.specs.Answers.{end_flips, end_of}
 use Rattle.wire.specs.declared.Header.{Header}
 use Rattle.wire.specs.Reading.{header_of, sort_of}
@@ -54,11 +54,11 @@ abbrev header_with : ℕ → ℕ → Header
 header_with content size = record { content = content; fragment = 0; size = size; flips = 0 }
 
 -- the header that the second TP finishes, and the fill's
-cut_of : header_of (0x10 ∷ 0x07 ∷ 0xB4 ∷ 0x00 ∷ 0x18 ∷ 0xEB ∷ []) ≡ some (header_with 4 1)
+cut_of : header_of (0x10 ∷ 0x07 ∷ 0xB4 ∷ 0x00 ∷ 0x18 ∷ 0xEB ∷ []) ≡ Some (header_with 4 1)
 unfolding header_of
 cut_of = cut_header
 
-fill_of : header_of (0x00 ∷ 0x00 ∷ 0x00 ∷ 0x00 ∷ 0x29 ∷ 0x3E ∷ []) ≡ some (header_with 0 2)
+fill_of : header_of (0x00 ∷ 0x00 ∷ 0x00 ∷ 0x00 ∷ 0x29 ∷ 0x3E ∷ []) ≡ Some (header_with 0 2)
 unfolding header_of
 fill_of = fill_header
 
@@ -118,11 +118,11 @@ of_two s x y r q e f =
     ∙ ap (λ (z : Listing). record { next = end; since = since_of z.1; lines = packets r.0 ++ (packets z.0 ++ []) }) f
 
 -- of the first TP: two records are covered with the setup, to byte 37, and record 1, at byte 13, has the cut header
-pub first_index : index_of setting (tp_in first_tp ∷ []) ≡ record { next = record { number = 2; byte = 37 }; since = some start_stamp; lines = low_line ∷ [] }
+pub first_index : index_of setting (tp_in first_tp ∷ []) ≡ record { next = record { number = 2; byte = 37 }; since = Some start_stamp; lines = low_line ∷ [] }
 first_index = of_one setting (tp_in first_tp) (low (tag_at 1 0) (0x11 ∷ 0x22 ∷ []) ∷ [], cut_at) first_record
 
 -- of both: three are covered, to byte 61, and nothing is unfinished
-pub sixth_index : index_of setting (tp_in first_tp ∷ tp_in second_tp ∷ []) ≡ record { next = record { number = 3; byte = 61 }; since = none; lines = low_line ∷ ordinary_line ∷ [] }
+pub sixth_index : index_of setting (tp_in first_tp ∷ tp_in second_tp ∷ []) ≡ record { next = record { number = 3; byte = 61 }; since = None; lines = low_line ∷ ordinary_line ∷ [] }
 sixth_index =
     of_two setting (tp_in first_tp) (tp_in second_tp) (low (tag_at 1 0) (0x11 ∷ 0x22 ∷ []) ∷ [], cut_at) (ordinary (tag_at 4 9) (0x33 ∷ []) ∷ [], between) first_record second_record
 

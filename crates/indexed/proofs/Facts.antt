@@ -1,10 +1,10 @@
 -- FACTS OF PLACES (`receiver.Facts`), up to where an EP is foretold and through any number of inputs. Assumes nothing.
 use Prim.Native.Nat.{ℕ, zero, suc}
 use mathlib.Core.Path.{◌≡◌, refl}
-use mathlib.Core.Option.{some}
 use mathlib.Core.List.{List, [], ◌∷◌, map}
 use native.Mathlib.Omega.{arith}
 use lib.ListN.{take}
+use Rattle.std.specs.Prelude.{Some}
 use Rattle.receiver.specs.Frame.{Code, Frame, lost, idle, head, body, step, after, events}
 use Rattle.receiver.specs.Forecast.{foretold, Way, stays, drops, gaps, goes}
 use Rattle.receiver.specs.Join.{Held, free, held}
@@ -30,7 +30,7 @@ module _ (C : Code) (Q : C.S → Type 0) where
 
   module _ (P : Placed C) where
     -- up to the foretold place no EP begins: of every place that is known before
-    pub in_foretold : (n : ℕ) (f : Frame C) (bs : List C.B) → foretold C f bs ≡ some n → InFrame C Q f
+    pub in_foretold : (n : ℕ) (f : Frame C) (bs : List C.B) → foretold C f bs ≡ Some n → InFrame C Q f
         → InFrame C Q (after C f (take n bs)) × InEvents C Q (events C f (take n bs))
     in_foretold zero f bs e a = (a, tt)
     in_foretold (suc n) f [] e a = (a, tt)

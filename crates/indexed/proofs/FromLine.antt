@@ -5,12 +5,12 @@ use Prim.Native.Nat.{ℕ, suc, ◌-◌, ◌<◌}
 use mathlib.Core.Path.{◌≡◌, refl, sym, ap, ap₂, ◌∙◌, subst}
 use mathlib.Core.Logic.{inl, inr}
 use mathlib.Core.Bool.{Bool, true, false, cond}
-use mathlib.Core.Option.{some}
 use mathlib.Core.List.{List, [], ◌∷◌, ◌++◌, map}
 use native.Mathlib.Omega.{arith}
 use lib.Dec.{leb, ltb}
 use lib.ListN.{take, drop, take-append-drop}
 use borrow.Author.Tests.{ne_eqb, eq-eqb, le-leb, lt-leb, le-ltb}
+use Rattle.std.specs.Prelude.{Some}
 use Rattle.receiver.specs.declared.Stamp.{Stamp}
 use Rattle.receiver.specs.declared.Place.{Place}
 use Rattle.receiver.specs.Low.{wire}
@@ -148,7 +148,7 @@ module _ (s : Setting) where
   -- of a list that rises
   first_there : (before behind : List (Packet wire)) (q : Packet wire)
       → Rising (λ (a b : Packet wire). BeforeAt (place_of a) (place_of b)) (chosen (sort_of_lem q) (before ++ q ∷ behind))
-      → first (chosen (behind_of_lem q) (chosen (sort_of_lem q) (before ++ q ∷ behind))) ≡ some q
+      → first (chosen (behind_of_lem q) (chosen (sort_of_lem q) (before ++ q ∷ behind))) ≡ Some q
   first_there before behind q r =
       let x : List (Packet wire) = chosen (sort_of_lem q) before in
       let y : List (Packet wire) = chosen (sort_of_lem q) behind in

@@ -3,10 +3,10 @@ use Prim.Native.Nat.{ℕ, ◌+◌}
 use mathlib.Core.Path.{◌≡◌, refl, sym, ap, ◌∙◌, subst}
 use mathlib.Core.Logic.{◌⊎◌, inl, inr}
 use mathlib.Core.Bool.{Bool, true, false, cond}
-use mathlib.Core.Option.{none, some}
 use mathlib.Core.List.{List, [], ◌∷◌, ◌++◌, append_assoc}
 use lib.Dec.{eqb, leb}
 use lib.ListN.{length}
+use Rattle.std.specs.Prelude.{None, Some}
 use Rattle.receiver.specs.declared.kind.Kind.{Kind}
 use Rattle.receiver.specs.declared.kind.Kind.TheVariants.{Fill, Reserved, Complete, First, Middle, Last}
 use Rattle.receiver.specs.Frame.{Code, Event, lose, gap, opened, entered, fed, closed}
@@ -40,7 +40,7 @@ module _ (C : Code) (room : ℕ) where
   abbrev TookIn : Held C → Took C → Type 0
   TookIn s o = Gives s (handed C (listed C o.1))
 
-  one_cond : (s : Held C) (b : Bool) (x y : Held C) (n : ℕ) (p : C.S) → TookIn s (cond {A = Took C} b (x, none) (y, some (notice n p)))
+  one_cond : (s : Held C) (b : Bool) (x y : Held C) (n : ℕ) (p : C.S) → TookIn s (cond {A = Took C} b (x, None) (y, Some (notice n p)))
   one_cond s true x y n p = inl refl
   one_cond s false x y n p = inl refl
 

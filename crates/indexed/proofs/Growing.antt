@@ -3,11 +3,11 @@
 use Prim.Native.Nat.{ℕ, ◌+◌, ◌-◌, ◌≤◌}
 use mathlib.Core.Path.{◌≡◌, refl, ap, ap₂, sym, subst, subst⁻¹, ◌∙◌}
 use mathlib.Core.Bool.{Bool, cond}
-use mathlib.Core.Option.{Option, none, some}
 use mathlib.Core.List.{List, [], ◌∷◌, ◌++◌, append_assoc}
 use native.Mathlib.Omega.{arith}
 use borrow.Author.Tests.{lt-ltb, le-ltb}
 use lib.ListN.{length, take, drop, take-append-drop}
+use Rattle.std.specs.Prelude.{Option, None, Some}
 use Rattle.receiver.specs.Call.{pending_of}
 use Rattle.receiver.specs.Tp.{Setting, Stand, Input}
 use Rattle.receiver.specs.declared.Stamp.{Stamp}
@@ -54,7 +54,7 @@ module _ (s : Setting) (recording : List ℕ) (xs : List Input) where
     lines : w ≡ lines_text (new_lines s next since xs new)
 
   module _ (w : List ℕ) (b : Reached) (read : Records recording start_stamp.byte xs next.byte) where
-    from_new : Written covered s recording next w b → Splits none w b
+    from_new : Written covered s recording next w b → Splits None w b
     from_new l = record {
       new = l.inputs;
       records = records_append recording xs l.inputs start_stamp.byte next.byte (byte_at b) read l.records;
@@ -73,7 +73,7 @@ module _ (s : Setting) (recording : List ℕ) (xs : List Input) where
       behind_again : behind_all q again ≡ next
       behind_again = ap (λ (p : Stamp). behind_all p again) stamp_is ∙ sym (behind_append (take n xs) again start_stamp) ∙ ap (behind_all start_stamp) both
 
-      from_since : Written covered s recording q w b → Splits (some q) w b
+      from_since : Written covered s recording q w b → Splits (Some q) w b
       from_since l =
           let parts = records_split recording (take n xs) again start_stamp.byte next.byte (subst⁻¹ (λ (zs : List Input). Records recording start_stamp.byte zs next.byte) both read) in
           let byte_is : parts.0 ≡ q.byte = sym (records_byte recording (take n xs) start_stamp.byte parts.0 start_stamp refl parts.1.0) ∙ ap (λ (p : Stamp). p.byte) (sym stamp_is) in
@@ -129,8 +129,8 @@ grew s recording xs w b z =
 splits : (s : Setting) (recording : List ℕ) (xs : List Input) (w : List ℕ) (b : Reached) (o : Option Stamp) → (index_of s xs).since ≡ o
     → Records recording start_stamp.byte xs (behind_all start_stamp xs).byte → (behind_all start_stamp xs).number ≤ b.number
     → Written (behind_all start_stamp xs).number s recording (reads_from o (behind_all start_stamp xs)) w b → Splits s recording xs o w b
-splits s recording xs w b none e read far l = from_new s recording xs w b read l
-splits s recording xs w b (some q) e read far l = let o = since_own s xs q e in from_since s recording xs w b read q o.n o.stamp_is o.number_is far l
+splits s recording xs w b None e read far l = from_new s recording xs w b read l
+splits s recording xs w b (Some q) e read far l = let o = since_own s xs q e in from_since s recording xs w b read q o.n o.stamp_is o.number_is far l
 
 -- MADE AND GROWN
 pub grows : Grows

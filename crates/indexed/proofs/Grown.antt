@@ -3,12 +3,12 @@
 use Prim.Native.Nat.{ℕ, suc, ◌-◌, ◌<◌, ◌≤◌}
 use mathlib.Core.Path.{◌≡◌, refl, sym, ap, ap₂, ◌∙◌, subst}
 use mathlib.Core.Bool.{Bool, false}
-use mathlib.Core.Option.{Option, none, some}
 use mathlib.Core.List.{List, [], ◌∷◌, ◌++◌, map, map-append}
 use native.Mathlib.Omega.{arith}
 use lib.Dec.{leb}
 use lib.ListN.{take, drop, take-append-drop, length-take}
 use borrow.Author.Tests.{le-leb, lt-leb}
+use Rattle.std.specs.Prelude.{Option, None, Some}
 use Rattle.receiver.specs.declared.Stamp.{Stamp}
 use Rattle.receiver.specs.declared.Place.{Place}
 use Rattle.receiver.specs.Frame.{Frame, lost, idle, head, body}
@@ -105,7 +105,7 @@ module _ (s : Setting) where
   split n xs = ap At (sym (take-append-drop n xs)) ∙ stand_append s (take n xs) (drop n xs) start_stamp fresh
 
   -- with something unfinished that began in the record that n records stand before
-  restarted : (xs : List Input) (n : ℕ) (q : Place) → pending_in (At xs) ≡ some q → q.stamp.number ≡ suc n
+  restarted : (xs : List Input) (n : ℕ) (q : Place) → pending_in (At xs) ≡ Some q → q.stamp.number ≡ suc n
       → bare (At xs) ≡ bare (stand_at s (behind_all start_stamp (take n xs)) fresh (drop n xs))
   restarted xs n q e i =
       let new : Place → Bool = λ (p : Place). leb (suc n) p.stamp.number in
@@ -121,7 +121,7 @@ module _ (s : Setting) where
       (ap (pending wire wired) (sym here) ∙ sym (pending_is (At xs)) ∙ e) (le-leb (suc n) q.stamp.number (omega arith))
       ∙ sym (stand_run s (drop n xs) p fresh)
 
-  pending_own : (xs : List Input) (q : Place) → pending_in (At xs) ≡ some q → Own start_stamp xs q.stamp
+  pending_own : (xs : List Input) (q : Place) → pending_in (At xs) ≡ Some q → Own start_stamp xs q.stamp
   pending_own xs q e =
       in_pending wire wired (λ (p : Place). Own start_stamp xs p.stamp) q (bare (At xs)) (in_stand (Own start_stamp xs) xs start_stamp (stamped_own xs start_stamp))
       (sym (pending_is (At xs)) ∙ e)
@@ -130,8 +130,8 @@ module _ (s : Setting) where
   resumed xs = by (pending_in (At xs)) refl
     where
       by : (o : Option Place) → pending_in (At xs) ≡ o → Alike (At xs) (regrown s (stamp_in o) xs)
-      by none e = same_fresh wire s.room wired (bare (At xs)) (rests_at xs start_stamp) (sym (pending_is (At xs)) ∙ e)
-      by (some q) e =
+      by None e = same_fresh wire s.room wired (bare (At xs)) (rests_at xs start_stamp) (sym (pending_is (At xs)) ∙ e)
+      by (Some q) e =
           let o : Own start_stamp xs q.stamp = pending_own xs q e in
           let i = o.number_is in
           let less : q.stamp.number - 1 ≡ o.n = omega arith in
@@ -177,13 +177,13 @@ grown s xs ys =
     (ap (λ (l : List Line). lines ++ l) (lines_grow s xs ys) ∙ sym (lines_append s xs ys))
 
 -- the record that is named is one of the recording's, so that 0 can stand for none
-pub since_own : (s : Setting) (xs : List Input) (p : Stamp) → (index_of s xs).since ≡ some p → Own start_stamp xs p
+pub since_own : (s : Setting) (xs : List Input) (p : Stamp) → (index_of s xs).since ≡ Some p → Own start_stamp xs p
 unfolding index_of
 since_own s xs p e = go (pending_in (At s xs)) refl e
   where
-    go : (o : Option Place) → pending_in (At s xs) ≡ o → stamp_in o ≡ some p → Own start_stamp xs p
-    go none z e = none_is e
-    go (some q) z e = let j : q.stamp ≡ p = cc in subst (Own start_stamp xs) j (pending_own s xs q z)
+    go : (o : Option Place) → pending_in (At s xs) ≡ o → stamp_in o ≡ Some p → Own start_stamp xs p
+    go None z e = none_is e
+    go (Some q) z e = let j : q.stamp ≡ p = cc in subst (Own start_stamp xs) j (pending_own s xs q z)
 
-pub since_positive : (s : Setting) (xs : List Input) (p : Stamp) → (index_of s xs).since ≡ some p → 1 ≤ p.number
+pub since_positive : (s : Setting) (xs : List Input) (p : Stamp) → (index_of s xs).since ≡ Some p → 1 ≤ p.number
 since_positive s xs p e = let i = (since_own s xs p e).number_is in omega arith

@@ -4,10 +4,10 @@
 use Prim.Native.Nat.{ℕ, zero, suc, ◌+◌}
 use mathlib.Core.Path.{◌≡◌, refl, sym, ap, ◌∙◌, subst}
 use mathlib.Core.Bool.{Bool, true, false, cond}
-use mathlib.Core.Option.{Option, none, some}
 use mathlib.Core.List.{List, [], ◌∷◌, ◌++◌, map, map-append, append_assoc}
 use lib.Dec.{eqb, leb}
 use lib.ListN.{length, drop}
+use Rattle.std.specs.Prelude.{Option, None, Some}
 use Rattle.receiver.specs.declared.kind.Kind.{Kind}
 use Rattle.receiver.specs.declared.kind.Kind.TheVariants.{Fill, Reserved, Complete, First, Middle, Last}
 use Rattle.receiver.specs.Frame.{Code, Frame, lost, idle, head, body, Event, lose, gap, opened, entered, fed, closed, Out, within, ending, whole, step, after, events}
@@ -61,8 +61,8 @@ module _ (C : Code) where
 
   module _ (P : Placed C) where
     one_whole : (p : C.S) (ks : List C.K) (b : C.S) (o : Option C.H) → C.decode p ks ≡ o → Sub (enters (whole C p o).1 ++ cut (whole C p o).0) (p ∷ b ∷ [])
-    one_whole p ks b none e = sub_none (p ∷ b ∷ [])
-    one_whole p ks b (some h) e =
+    one_whole p ks b None e = sub_none (p ∷ b ∷ [])
+    one_whole p ks b (Some h) e =
         subst (λ (l : List C.S). Sub (C.place h ∷ l) (p ∷ b ∷ [])) (sym (ended h (C.size h)))
         (subst (λ (x : C.S). Sub (x ∷ []) (p ∷ b ∷ [])) (sym (P.place_is p ks h e)) (both (skip end)))
 
@@ -96,8 +96,8 @@ module _ (C : Code) where
     by_agree false p f n bs = by_resume (lose 13 p ∷ []) f n bs refl
 
     by_judge : (o : Option ℕ) (p : C.S) (f : Frame C) (n : ℕ) (bs : List C.B) → From (read C (judge C o p f n bs) bs) f bs
-    by_judge none p f n bs = by_resume (judge C none p f n bs).told f n bs refl
-    by_judge (some m) p f n bs = by_agree (eqb m n) p f n bs
+    by_judge None p f n bs = by_resume (judge C None p f n bs).told f n bs refl
+    by_judge (Some m) p f n bs = by_agree (eqb m n) p f n bs
 
     by_input : (f : Frame C) (w : Way C) → Sub (enters (by_way C f w).1 ++ cut (by_way C f w).0) (cut f ++ marks C w)
     by_input f stays = none_after (cut f)
@@ -124,7 +124,7 @@ module _ (C : Code) where
     TookIn o s new = Sub (given o.1 ++ holds o.0) (holds s ++ new)
 
     one_cond : (b : Bool) (t : C.T) (d : List C.K) (n : ℕ) (p : C.S) (ys : List C.S) → Sub (P.from t ∷ []) ys
-        → Sub (given (cond {A = Took C} b (held t d, none) (free, some (notice n p))).1 ++ holds (cond {A = Took C} b (held t d, none) (free, some (notice n p))).0) ys
+        → Sub (given (cond {A = Took C} b (held t d, None) (free, Some (notice n p))).1 ++ holds (cond {A = Took C} b (held t d, None) (free, Some (notice n p))).0) ys
     one_cond true t d n p ys s = s
     one_cond false t d n p ys s = sub_none ys
 

@@ -5,18 +5,16 @@ use Prim.Native.Nat.{ℕ, ◌+◌, ◌-◌, ◌<◌, ◌≤◌}
 use mathlib.Core.Path.{◌≡◌, refl, sym, ap, ap₂, ◌∙◌, subst}
 use mathlib.Core.Logic.{◌⊎◌, inl, inr}
 use mathlib.Core.Bool.{Bool, true, false, cond, ◌&&◌}
-use mathlib.Core.Option.{Option, none, some}
 use mathlib.Core.List.{List, [], ◌∷◌, ◌++◌, append-nil, append_assoc}
 use native.Mathlib.Omega.{arith}
 use lib.Dec.{eqb}
 use lib.ListN.{length, take, drop, take-append-drop, length-append, length-take}
 use lib.Seq.{take_all, take-take, take_at, drop_at}
 use borrow.Author.Tests.{ne_eqb, le-leb, lt-ltb, le-ltb}
+use Rattle.std.specs.Prelude.{Option, None, Some}
 use Rattle.receiver.specs.declared.Stamp.{Stamp}
 use Rattle.receiver.specs.Tp.{Setting, Input}
 use Rattle.line_zero.specs.declared.Top.{Top}
-use Rattle.line_zero.specs.declared.Reads.{Reads}
-use Rattle.line_zero.specs.declared.Reads.TheVariants.{Says}
 use Rattle.line_zero.specs.Top.{top_text, top_in, Small}
 use Rattle.line_zero.proofs.Laws.{top_back, top_width}
 use Rattle.indexing.specs.Lines.{Line, line_text}
@@ -38,11 +36,11 @@ byte_behind [] p = omega arith
 byte_behind (x ∷ xs) p = let e = byte_behind xs (behind p x) in omega arith
 
 -- line 0 gives back the stamp that it names
-since_back : (o : Option Stamp) → ((p : Stamp) → o ≡ some p → 1 ≤ p.number) → cond (eqb (number_of o) 0) none (some (record { number = number_of o; byte = byte_of o })) ≡ o
-since_back none pos = refl
-since_back (some p) pos =
+since_back : (o : Option Stamp) → ((p : Stamp) → o ≡ Some p → 1 ≤ p.number) → cond (eqb (number_of o) 0) None (Some (record { number = number_of o; byte = byte_of o })) ≡ o
+since_back None pos = refl
+since_back (Some p) pos =
     let l = pos p refl in
-    ap (λ (b : Bool). cond b none (some p)) (ne_eqb p.number 0 (λ e. omega arith))
+    ap (λ (b : Bool). cond b None (Some p)) (ne_eqb p.number 0 (λ e. omega arith))
 
 module _ (s : Setting) where
   abbrev ix : List Input → Index
@@ -200,7 +198,7 @@ module _ (s : Setting) where
       let b = length-take (full xs) f in
       omega arith
 
-  says : (xs : List Input) (f : List ℕ) → Small (zero_of xs) → Holds xs f → top_in f ≡ Says (zero_of xs)
+  says : (xs : List Input) (f : List ℕ) → Small (zero_of xs) → Holds xs f → top_in f ≡ Some (zero_of xs)
   unfolding file_of
   says xs f small h =
       let lines : List ℕ = lines_text (ix xs).lines in
@@ -226,7 +224,7 @@ module _ (s : Setting) where
       let zs : List Input = xs ++ ys in
       let l = long xs f h in
       ap (λ (b : Bool). cond b (renamed (top_text empty_top) ∷ growth s empty_top zs) (writes_by s (top_in f) (length f) zs rest)) (le-ltb (length f) 133 (omega arith))
-      ∙ ap (λ (r : Reads). writes_by s r (length f) zs rest) (says xs f small h)
+      ∙ ap (λ (r : Option Top). writes_by s r (length f) zs rest) (says xs f small h)
       ∙ ap₂ (λ (a b : Bool). cond a (cond b [] (growth s (zero_of xs) zs)) []) (is_whole_lem xs (length f) l) (covers_no_more xs ys rest)
 
   -- ---- any growth

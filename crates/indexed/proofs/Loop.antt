@@ -10,12 +10,12 @@ use lib.Dec.{leb}
 use lib.ListN.{length, take, drop, length-take, length-drop}
 use lib.Seq.{take_all}
 use borrow.Author.Tests.{leb-true, leb-false}
+use Rattle.std.specs.Prelude.{Ok, Some, None}
 use Rattle.block.specs.Block.{Block}
 use Rattle.console.specs.Taking.{begin_of, stretch}
 use Rattle.console.specs.declared.Unread.{Unread}
 use Rattle.house.specs.Series.{unread_in}
 use Rattle.house.specs.Slices.{at_hand, data_in}
-use Rattle.house.specs.declared.AtHand.TheVariants.{Part, Whole}
 use Rattle.house.specs.declared.Place.TheVariants.{Listing}
 use Rattle.house.specs.declared.Record.TheVariants.{Packet, Gap}
 use Rattle.house.proofs.Slicing.{whole_data, whole_fits}
@@ -41,8 +41,8 @@ use Rattle.indexed.proofs.Records.{behind_append}
 abbrev Counts : ℕ → Standing → Type 0
 Counts gone b = (b.number < 0xFFFFFFFFFFFFFFFF) × (gone + b.from < 0xFFFFFFFFFFFFFFFF)
 
-no_part : (u : List ℕ) (k : ℕ) → at_hand Listing u ≡ Whole (Packet k) → at_hand Listing u ≡ Part → ⊥
-no_part u k d e = let other : Whole (Packet k) ≡ Part = sym d ∙ e in let z : ◌≡◌ {A = ℕ} 0 1 = cc in omega arith
+no_part : (u : List ℕ) (k : ℕ) → at_hand Listing u ≡ Ok (Some (Packet k)) → at_hand Listing u ≡ Ok None → ⊥
+no_part u k d e = let other : Ok (Some (Packet k)) ≡ Ok None = sym d ∙ e in let z : ◌≡◌ {A = ℕ} 0 1 = cc in omega arith
 
 -- where a whole record is at hand, the stretch lies within its block
 stretch_is : (d : List ℕ) (u : Unread) → 8 ≤ length (unread_in d u.from u.till) → stretch d u ≡ unread_in d u.from u.till
@@ -73,7 +73,7 @@ module _ (covered : ℕ) (s : Setting) (recording : List ℕ) (p : Stamp) where
     -- within the TP at hand
     record Mid (xs : List Input) (put : List ℕ) (b : Standing) : Type 0 where
       size : ℕ
-      tp_at_hand : at_hand Listing (unread_in block b.from till) ≡ Whole (Packet size)
+      tp_at_hand : at_hand Listing (unread_in block b.from till) ≡ Ok (Some (Packet size))
       amid : Amid covered s p xs put (here b) (data_in (Packet size) (drop (gone + b.from) recording)) b.receiver b.room
 
     record Stood (put : List ℕ) (b : Standing) : Type 0 where
@@ -97,13 +97,13 @@ module _ (covered : ℕ) (s : Setting) (recording : List ℕ) (p : Stamp) where
       abbrev bytes : ℕ → List ℕ
       bytes n = data_in (Packet n) (drop (gone + b.from) recording)
 
-      amid_at : (n : ℕ) → at_hand Listing u ≡ Whole (Packet n) → Amid covered s p t.inputs put (here b) (bytes n) b.receiver b.room
+      amid_at : (n : ℕ) → at_hand Listing u ≡ Ok (Some (Packet n)) → Amid covered s p t.inputs put (here b) (bytes n) b.receiver b.room
       amid_at n whole =
           ⊎_elim (λ k. begin covered s p (here b) (bytes n) k)
           (λ k. subst (λ (i : ℕ). Amid covered s p t.inputs put (here b) (bytes i) b.receiver b.room) (packet_size u k.size n k.tp_at_hand whole) k.amid)
           t.now
 
-      between_at_lem : at_hand Listing u ≡ Whole Gap → Between covered s p t.inputs put b.receiver b.room
+      between_at_lem : at_hand Listing u ≡ Ok (Some Gap) → Between covered s p t.inputs put b.receiver b.room
       between_at_lem whole = ⊎_elim (λ k. k) (λ k. absurd (no_gap u k.size k.tp_at_hand whole)) t.now
 
       -- one input more
@@ -111,7 +111,7 @@ module _ (covered : ℕ) (s : Setting) (recording : List ℕ) (p : Stamp) where
       next_on x n to en eb =
           behind_append t.inputs (x ∷ []) p ∙ ap (λ (q : Stamp). behind q x) t.next ∙ ap₂ (λ (i j : ℕ). record { number = i; byte = j }) (sym en) (sym eb)
 
-      module _ (n : ℕ) (whole : at_hand Listing u ≡ Whole (Packet n)) (r : Receiver) (m : List ℕ) (o : Block) where
+      module _ (n : ℕ) (whole : at_hand Listing u ≡ Ok (Some (Packet n))) (r : Receiver) (m : List ℕ) (o : Block) where
         abbrev Pausing : Stamp → List ℕ → Type 0
         Pausing q d = Pauses (Index covered) q d b.receiver b.room b.out r m o
 
@@ -156,7 +156,7 @@ module _ (covered : ℕ) (s : Setting) (recording : List ℕ) (p : Stamp) where
               adds = g.adds;
             }
 
-      gap_record : sum_of b.number 1 < 0xFFFFFFFFFFFFFFFF → at_hand Listing u ≡ Whole Gap
+      gap_record : sum_of b.number 1 < 0xFFFFFFFFFFFFFFFF → at_hand Listing u ≡ Ok (Some Gap)
           → Moved put b.out (record { from = b.from + 8; number = sum_of b.number 1; receiver = gap_of b.receiver; room = b.room; out = b.out })
       gap_record l whole =
           let whole_is = whole_there recording block gone b.from till t.shows Gap whole in

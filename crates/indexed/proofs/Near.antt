@@ -5,7 +5,6 @@ use Prim.Native.Nat.{ℕ, zero, suc, ◌<◌, ◌≤◌}
 use mathlib.Core.Path.{◌≡◌, refl, sym, ap, ap₂, ◌∙◌, subst}
 use mathlib.Core.Logic.{◌⊎◌, inl, inr}
 use mathlib.Core.Bool.{Bool, true, false}
-use mathlib.Core.Option.{Option, none, some}
 use mathlib.Core.List.{List, [], ◌∷◌, ◌++◌, append_assoc}
 use native.Mathlib.Omega.{arith}
 use native.Mathlib.Decide.{dec_le}
@@ -13,6 +12,7 @@ use lib.Dec.{eqb}
 use lib.ListN.{length, take, drop, take-append-drop, drop_of_length-le}
 use lib.Seq.{take_all}
 use borrow.Author.Tests.{eqb-true}
+use Rattle.std.specs.Prelude.{Option, None, Some}
 use Rattle.receiver.specs.Frame.{Code, Frame, lost, idle, head, body, Event, lose, Out, within, whole, step, after, events}
 use Rattle.receiver.specs.Forecast.{foretold, upon, resume, agree, judge, Way, stays, drops, gaps, goes, read, by_way}
 use Rattle.receiver.specs.Join.{Finding, Held, free, holding, finds}
@@ -35,8 +35,8 @@ module _ (C : Code) (room : ℕ) where
   not_lost h (suc k) e = let z : ◌≡◌ {A = ℕ} 0 1 = cc in absurd (omega arith)
 
   rests_whole : (p : C.S) (o : Option C.H) (s : Held C) → Rests (whole C p o).0 (holding C room s (whole C p o).1)
-  rests_whole p none s e = refl
-  rests_whole p (some h) s e = not_lost h (C.size h) e
+  rests_whole p None s e = refl
+  rests_whole p (Some h) s e = not_lost h (C.size h) e
 
   rests_step : (f : Frame C) (b : C.B) (s : Held C) → Rests f s → Rests (step C f b).0 (holding C room s (step C f b).1)
   rests_step lost b s r e = r refl
@@ -58,8 +58,8 @@ module _ (C : Code) (room : ℕ) where
 
   rests_judge : (o : Option ℕ) (p : C.S) (f : Frame C) (s : Held C) (n : ℕ) (bs : List C.B) → Rests f s
       → Rests (read C (judge C o p f n bs) bs).0 (holding C room s (read C (judge C o p f n bs) bs).1)
-  rests_judge none p f s n bs r = rests_read (drop n bs) (upon C (drop n bs)) free (λ e. refl)
-  rests_judge (some m) p f s n bs r = rests_agree (eqb m n) p f s n bs r
+  rests_judge None p f s n bs r = rests_read (drop n bs) (upon C (drop n bs)) free (λ e. refl)
+  rests_judge (Some m) p f s n bs r = rests_agree (eqb m n) p f s n bs r
 
   pub rests_next : (w : Way C) (f : Frame C) (s : Held C) → Rests f s → Rests (by_way C f w).0 (holding C room s (by_way C f w).1)
   rests_next stays f s r = r
@@ -137,7 +137,7 @@ module _ (C : Code) (room : ℕ) (P : Placed C) (new : C.S → Bool) where
       }
 
   -- the offset agrees with the forecast, where an EP begins
-  at_seam : (f : Frame C) (s : Held C) (p : C.S) (n : ℕ) (bs : List C.B) → foretold C f bs ≡ some n → n < length bs
+  at_seam : (f : Frame C) (s : Held C) (p : C.S) (n : ℕ) (bs : List C.B) → foretold C f bs ≡ Some n → n < length bs
       → InFrame C Old f → InHeld C Old P s → Alike s (after C f bs, events C f bs) (goes p n bs)
   at_seam f s p n bs e l a q =
       let x : List C.B = take n bs in
@@ -168,7 +168,7 @@ module _ (C : Code) (room : ℕ) (P : Placed C) (new : C.S → Bool) where
       }
 
   -- where none begins: all that is read belongs to what was begun before
-  no_seam : (f : Frame C) (s : Held C) (p : C.S) (n : ℕ) (bs : List C.B) → foretold C f bs ≡ some n → length bs ≤ n
+  no_seam : (f : Frame C) (s : Held C) (p : C.S) (n : ℕ) (bs : List C.B) → foretold C f bs ≡ Some n → length bs ≤ n
       → InFrame C Old f → InHeld C Old P s → Alike s (after C f bs, events C f bs) (goes p n bs)
   no_seam f s p n bs e l a q =
       let o = in_foretold C Old P n f bs e a in
@@ -186,7 +186,7 @@ module _ (C : Code) (room : ℕ) (P : Placed C) (new : C.S → Bool) where
       stand : Frame C → Held C → Stand C
       stand f s = record { frame = f; held = s }
 
-  by_agree : (b : Bool) (p : C.S) (f : Frame C) (s : Held C) (n : ℕ) (bs : List C.B) → (b ≡ true → foretold C f bs ≡ some n)
+  by_agree : (b : Bool) (p : C.S) (f : Frame C) (s : Held C) (n : ℕ) (bs : List C.B) → (b ≡ true → foretold C f bs ≡ Some n)
       → InFrame C Old f → InHeld C Old P s → Alike s (read C (agree C b p f n bs) bs) (goes p n bs)
   by_agree false p f s n bs e a q = both (lose 13 p ∷ []) s p n bs refl refl
   by_agree true p f s n bs e a q = go (dec_le (suc n) (length bs))
@@ -197,8 +197,8 @@ module _ (C : Code) (room : ℕ) (P : Placed C) (new : C.S → Bool) where
 
   by_judge : (o : Option ℕ) (p : C.S) (f : Frame C) (s : Held C) (n : ℕ) (bs : List C.B) → foretold C f bs ≡ o
       → InFrame C Old f → InHeld C Old P s → Alike s (read C (judge C o p f n bs) bs) (goes p n bs)
-  by_judge none p f s n bs e a q = both (judge C none p f n bs).told s p n bs refl refl
-  by_judge (some m) p f s n bs e a q = by_agree (eqb m n) p f s n bs (λ t. e ∙ ap some (eqb-true m n t)) a q
+  by_judge None p f s n bs e a q = both (judge C None p f n bs).told s p n bs refl refl
+  by_judge (Some m) p f s n bs e a q = by_agree (eqb m n) p f s n bs (λ t. e ∙ ap Some (eqb-true m n t)) a q
 
   one_way : (w : Way C) (f : Frame C) (s : Held C) → InFrame C Old f → InHeld C Old P s → Rests C room f s → Alike s (by_way C f w) w
   one_way stays f s a q r = record { finds_are = refl; left = inr (record { is_fresh = refl; is_old = (a, q) }) }

@@ -4,10 +4,10 @@ use Prim.Native.Nat.{ℕ}
 use mathlib.Core.Path.{◌≡◌, refl, sym, ap, ◌∙◌, subst}
 use mathlib.Core.Logic.{◌⊎◌, inl, inr}
 use mathlib.Core.Bool.{Bool, true, false}
-use mathlib.Core.Option.{Option, none, some}
 use mathlib.Core.List.{List, [], ◌∷◌, ◌++◌, map, map-append, append_assoc}
 use lib.Dec.{eqb}
 use lib.ListN.{take, drop, take-append-drop}
+use Rattle.std.specs.Prelude.{Option, None, Some}
 use Rattle.receiver.specs.Frame.{Code, Frame, lost, idle, head, body, Event, lose, step, after, events}
 use Rattle.receiver.specs.Forecast.{inside, phase, foretold, upon, resume, agree, judge, Way, stays, drops, gaps, goes, read, by_way}
 use Rattle.receiver.specs.Join.{Held, free, holding}
@@ -36,7 +36,7 @@ module _ (C : Code) (P : Placed C) (room : ℕ) (R : C.S → C.S → Type 0) whe
 
   -- and all that is known stands before what is still to be read
   pub record Ordered (ms : List C.S) (f : Frame C) (s : Held C) : Type 0 where
-    pub older : (p : C.S) → frame_from C P f ≡ some p → InHeld C (λ q. NotLater q p) P s
+    pub older : (p : C.S) → frame_from C P f ≡ Some p → InHeld C (λ q. NotLater q p) P s
     pub frames : InFrame C (BeforeAll ms) f
     pub helds : InHeld C (BeforeAll ms) P s
 
@@ -47,7 +47,7 @@ module _ (C : Code) (P : Placed C) (room : ℕ) (R : C.S → C.S → Type 0) whe
 
   -- within a header or an EP no other begins
   inside_on : (f : Frame C) (b : C.B) (s : Held C) (p : C.S) → phase C f ≡ inside → InFrame C (λ q. q ≡ p) f → InHeld C (λ q. NotLater q p) P s
-      → (q : C.S) → frame_from C P (step C f b).0 ≡ some q → InHeld C (λ x. NotLater x q) P (holding C room s (step C f b).1)
+      → (q : C.S) → frame_from C P (step C f b).0 ≡ Some q → InHeld C (λ x. NotLater x q) P (holding C room s (step C f b).1)
   inside_on f b s p i a h q e =
       let z : q ≡ p = in_frame C P (λ x. x ≡ p) q (step C f b).0 (in_inside C (λ x. x ≡ p) P f b i a).0 e in
       let es = (in_inside C (λ x. NotLater x p) P f b i (weaker C P (λ x. x ≡ p) (λ x. NotLater x p) (λ x y. inr y) (record { frame = f; held = free }) (a, tt)).0).1 in
@@ -55,7 +55,7 @@ module _ (C : Code) (P : Placed C) (room : ℕ) (R : C.S → C.S → Type 0) whe
       (in_holding C (λ x. NotLater x p) P room (step C f b).1 s es h)
 
   older_step : (f : Frame C) (b : C.B) (s : Held C) (ms : List C.S) → Ordered (C.mark b ∷ ms) f s
-      → (q : C.S) → frame_from C P (step C f b).0 ≡ some q → InHeld C (λ x. NotLater x q) P (holding C room s (step C f b).1)
+      → (q : C.S) → frame_from C P (step C f b).0 ≡ Some q → InHeld C (λ x. NotLater x q) P (holding C room s (step C f b).1)
   older_step lost b s ms o q e = none_is e
   older_step idle b s ms o q e =
       let z : C.mark b ≡ q = cc in
@@ -87,7 +87,7 @@ module _ (C : Code) (P : Placed C) (room : ℕ) (R : C.S → C.S → Type 0) whe
       ∙ ap (λ (l : List C.S). l ++ ms) (map-append C.mark (take n bs) (drop n bs))
       ∙ append_assoc (map C.mark (take n bs)) (map C.mark (drop n bs)) ms
 
-  none_upon : (bs : List C.B) → frame_from C P (upon C bs) ≡ none
+  none_upon : (bs : List C.B) → frame_from C P (upon C bs) ≡ None
   none_upon [] = refl
   none_upon (b ∷ bs) = refl
 
@@ -115,8 +115,8 @@ module _ (C : Code) (P : Placed C) (room : ℕ) (R : C.S → C.S → Type 0) whe
 
   by_judge : (k : Option ℕ) (p : C.S) (f : Frame C) (s : Held C) (n : ℕ) (bs : List C.B) (ms : List C.S) → Rising R (map C.mark bs ++ ms)
       → Ordered (map C.mark bs ++ ms) f s → Ordered ms (read C (judge C k p f n bs) bs).0 (holding C room s (read C (judge C k p f n bs) bs).1)
-  by_judge none p f s n bs ms r o = resumed (judge C none p f n bs).told n bs s ms (tt, tt) r o.helds
-  by_judge (some m) p f s n bs ms r o = by_agree (eqb m n) p f s n bs ms r o
+  by_judge None p f s n bs ms r o = resumed (judge C None p f n bs).told n bs s ms (tt, tt) r o.helds
+  by_judge (Some m) p f s n bs ms r o = by_agree (eqb m n) p f s n bs ms r o
 
   out_of_step : (ms : List C.S) → Ordered ms lost free
   out_of_step ms = record { older = λ p e. none_is e; frames = tt; helds = tt }

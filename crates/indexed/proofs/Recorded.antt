@@ -5,8 +5,8 @@ use mathlib.Core.Path.{◌≡◌, refl, ap, ap₂, sym, subst, subst⁻¹, ◌�
 use mathlib.Core.List.{List, [], ◌∷◌, ◌++◌}
 use native.Mathlib.Omega.{arith}
 use lib.ListN.{length, drop}
+use Rattle.std.specs.Prelude.{Ok, Some}
 use Rattle.house.specs.Slices.{at_hand, data_in}
-use Rattle.house.specs.declared.AtHand.TheVariants.{Whole}
 use Rattle.house.specs.declared.Place.TheVariants.{Listing}
 use Rattle.house.specs.declared.Record.TheVariants.{Packet, Gap}
 use Rattle.house.proofs.Slicing.{whole_data}
@@ -15,19 +15,19 @@ use Rattle.receiver.specs.declared.Stamp.{Stamp}
 use Rattle.indexed.specs.Index.{behind, behind_all}
 use Rattle.indexed.specs.Loop.{Records}
 
-pub packet_size : (u : List ℕ) (k n : ℕ) → at_hand Listing u ≡ Whole (Packet k) → at_hand Listing u ≡ Whole (Packet n) → k ≡ n
-packet_size u k n d e = let both : Whole (Packet k) ≡ Whole (Packet n) = sym d ∙ e in cc
+pub packet_size : (u : List ℕ) (k n : ℕ) → at_hand Listing u ≡ Ok (Some (Packet k)) → at_hand Listing u ≡ Ok (Some (Packet n)) → k ≡ n
+packet_size u k n d e = let both : Ok (Some (Packet k)) ≡ Ok (Some (Packet n)) = sym d ∙ e in cc
 
-pub no_gap : (u : List ℕ) (k : ℕ) → at_hand Listing u ≡ Whole (Packet k) → at_hand Listing u ≡ Whole Gap → ⊥
-no_gap u k d e = let other : Whole (Packet k) ≡ Whole Gap = sym d ∙ e in let z : ◌≡◌ {A = ℕ} 0 1 = cc in omega arith
+pub no_gap : (u : List ℕ) (k : ℕ) → at_hand Listing u ≡ Ok (Some (Packet k)) → at_hand Listing u ≡ Ok (Some Gap) → ⊥
+no_gap u k d e = let other : Ok (Some (Packet k)) ≡ Ok (Some Gap) = sym d ∙ e in let z : ◌≡◌ {A = ℕ} 0 1 = cc in omega arith
 
 module _ (recording : List ℕ) where
   -- one TP
-  pub records_tp : (i n k : ℕ) → at_hand Listing (drop i recording) ≡ Whole (Packet n) → i + 8 + n ≡ k → Records recording i (tp_in (data_in (Packet n) (drop i recording)) ∷ []) k
+  pub records_tp : (i n k : ℕ) → at_hand Listing (drop i recording) ≡ Ok (Some (Packet n)) → i + 8 + n ≡ k → Records recording i (tp_in (data_in (Packet n) (drop i recording)) ∷ []) k
   records_tp i n k whole e =
       let u = drop i recording in
       let long : length (data_in (Packet n) u) ≡ n = whole_data Listing u (Packet n) whole in
-      (whole ∙ ap (λ (z : ℕ). Whole (Packet z)) (sym long), (ap (λ (z : ℕ). data_in (Packet z) u) long, ap (λ (z : ℕ). i + 8 + z) long ∙ e))
+      (whole ∙ ap (λ (z : ℕ). Ok (Some (Packet z))) (sym long), (ap (λ (z : ℕ). data_in (Packet z) u) long, ap (λ (z : ℕ). i + 8 + z) long ∙ e))
 
   pub records_append : (xs ys : List Input) (i j k : ℕ) → Records recording i xs j → Records recording j ys k → Records recording i (xs ++ ys) k
   records_append [] ys i j k a b = subst⁻¹ (λ (n : ℕ). Records recording n ys k) a b

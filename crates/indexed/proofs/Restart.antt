@@ -4,9 +4,9 @@ use Prim.Native.Nat.{ℕ}
 use mathlib.Core.Path.{◌≡◌, refl, sym, ap, ap₂, ◌∙◌, subst}
 use mathlib.Core.Logic.{inl, inr}
 use mathlib.Core.Bool.{Bool, true, false}
-use mathlib.Core.Option.{Option, none, some}
 use mathlib.Core.List.{List, [], ◌∷◌}
 use native.Mathlib.Omega.{arith}
+use Rattle.std.specs.Prelude.{Option, None, Some}
 use Rattle.receiver.specs.Frame.{Code, Frame, lost, idle, head, body}
 use Rattle.receiver.specs.Forecast.{Way}
 use Rattle.receiver.specs.Join.{Held, free, held}
@@ -21,42 +21,42 @@ use Rattle.indexed.proofs.Near.{Rests, rests_next, Aged, Beside, Near, near_next
 not_both : {A : Type 0} → true ≡ false → A
 not_both e = let z : ◌≡◌ {A = ℕ} 0 1 = cc in absurd (omega arith)
 
-pub none_is : {A B : Type 0} {p : A} → none ≡ some p → B
+pub none_is : {A B : Type 0} {p : A} → None ≡ Some p → B
 none_is e = let z : ◌≡◌ {A = ℕ} 0 1 = cc in absurd (omega arith)
 
 module _ (C : Code) (P : Placed C) where
   abbrev pub frame_from : Frame C → Option C.S
-  frame_from lost = none
-  frame_from idle = none
-  frame_from (head p k hs) = some p
-  frame_from (body h k) = some (C.place h)
+  frame_from lost = None
+  frame_from idle = None
+  frame_from (head p k hs) = Some p
+  frame_from (body h k) = Some (C.place h)
 
   abbrev pub held_from : Held C → Frame C → Option C.S
   held_from free f = frame_from f
-  held_from (held t d) f = some (P.from t)
+  held_from (held t d) f = Some (P.from t)
 
   -- where what is unfinished began: the packet held, or else the header or EP under way
   abbrev pub pending : Stand C → Option C.S
   pending t = held_from t.held t.frame
 
-  pub in_frame : (Q : C.S → Type 0) (p : C.S) (f : Frame C) → InFrame C Q f → frame_from f ≡ some p → Q p
+  pub in_frame : (Q : C.S → Type 0) (p : C.S) (f : Frame C) → InFrame C Q f → frame_from f ≡ Some p → Q p
   in_frame Q p lost a e = none_is e
   in_frame Q p idle a e = none_is e
   in_frame Q p (head i k hs) a e = let z : i ≡ p = cc in subst Q z a
   in_frame Q p (body h k) a e = let z : C.place h ≡ p = cc in subst Q z a
 
-  in_held : (Q : C.S → Type 0) (p : C.S) (s : Held C) (f : Frame C) → InFrame C Q f → InHeld C Q P s → held_from s f ≡ some p → Q p
+  in_held : (Q : C.S → Type 0) (p : C.S) (s : Held C) (f : Frame C) → InFrame C Q f → InHeld C Q P s → held_from s f ≡ Some p → Q p
   in_held Q p free f a q e = in_frame Q p f a e
   in_held Q p (held t d) f a q e = let z : P.from t ≡ p = cc in subst Q z q
 
-  pub in_pending : (Q : C.S → Type 0) (p : C.S) (t : Stand C) → InStand C Q P t → pending t ≡ some p → Q p
+  pub in_pending : (Q : C.S → Type 0) (p : C.S) (t : Stand C) → InStand C Q P t → pending t ≡ Some p → Q p
   in_pending Q p t a e = in_held Q p t.held t.frame a.0 a.1 e
 
 module _ (C : Code) (room : ℕ) (P : Placed C) (new : C.S → Bool) where
-  held_same : (p : C.S) (s u : Held C) (f : Frame C) → new p ≡ true → held_from C P s f ≡ some p → Shadow C room P new s u → s ≡ u
+  held_same : (p : C.S) (s u : Held C) (f : Frame C) → new p ≡ true → held_from C P s f ≡ Some p → Shadow C room P new s u → s ≡ u
   held_same p s free f n e (inl z) = z
   held_same p s free f n e (inr (t, d, z, o)) =
-      let i : P.from t ≡ p = let x : some (P.from t) ≡ some p = subst (λ (y : Held C). held_from C P y f ≡ some p) z e in cc in
+      let i : P.from t ≡ p = let x : Some (P.from t) ≡ Some p = subst (λ (y : Held C). held_from C P y f ≡ Some p) z e in cc in
       not_both (sym n ∙ ap new (sym i) ∙ o)
   held_same p s (held t d) f n e z = z
 
@@ -65,7 +65,7 @@ module _ (C : Code) (room : ℕ) (P : Placed C) (new : C.S → Bool) where
 
   -- of old places only before these inputs, and behind them something unfinished that began later
   pub restart : (ws : List (Way C)) (t : Stand C) (p : C.S) → Rests C room t.frame t.held → Aged C room P new t
-      → pending C P (run C room t ws) ≡ some p → new p ≡ true → run C room t ws ≡ run C room (fresh C) ws
+      → pending C P (run C room t ws) ≡ Some p → new p ≡ true → run C room t ws ≡ run C room (fresh C) ws
   restart ws t p r a e n = go (near_run C room P new ws t (fresh C) r (inr (record { is_fresh = refl; is_old = a })))
     where
       T : Stand C
@@ -93,17 +93,17 @@ module _ (C : Code) (room : ℕ) (P : Placed C) where
   same_equal t u r e =
       record { rests = r; near = inl (subst (λ (x : Stand C). Beside C room P every t x) e (record { frame = refl; held = same C room P every t.held })) }
 
-  frame_none : (f : Frame C) → frame_from C P f ≡ none → InFrame C (λ p. true ≡ false) f
+  frame_none : (f : Frame C) → frame_from C P f ≡ None → InFrame C (λ p. true ≡ false) f
   frame_none lost e = tt
   frame_none idle e = tt
   frame_none (head p k hs) e = none_is (sym e)
   frame_none (body h k) e = none_is (sym e)
 
-  held_none : (s : Held C) (f : Frame C) → held_from C P s f ≡ none → InFrame C (λ p. true ≡ false) f × InHeld C (λ p. true ≡ false) P s
+  held_none : (s : Held C) (f : Frame C) → held_from C P s f ≡ None → InFrame C (λ p. true ≡ false) f × InHeld C (λ p. true ≡ false) P s
   held_none free f e = (frame_none f e, tt)
   held_none (held t d) f e = none_is (sym e)
 
-  pub same_fresh : (t : Stand C) → Rests C room t.frame t.held → pending C P t ≡ none → Same t (fresh C)
+  pub same_fresh : (t : Stand C) → Rests C room t.frame t.held → pending C P t ≡ None → Same t (fresh C)
   same_fresh t r e = record { rests = r; near = inr (record { is_fresh = refl; is_old = held_none t.held t.frame e }) }
 
   pub same_gives : (w : Way C) (t u : Stand C) → Same t u → gives C room t w ≡ gives C room u w
@@ -119,13 +119,13 @@ module _ (C : Code) (room : ℕ) (P : Placed C) where
   pub same_next : (w : Way C) (t u : Stand C) → Same t u → Same (next C room t w) (next C room u w)
   same_next w t u s = record { rests = rests_next C room w t.frame t.held s.rests; near = near_next C room P every w t u s.rests s.near }
 
-  none_frame : (f : Frame C) → InFrame C (λ p. true ≡ false) f → frame_from C P f ≡ none
+  none_frame : (f : Frame C) → InFrame C (λ p. true ≡ false) f → frame_from C P f ≡ None
   none_frame lost a = refl
   none_frame idle a = refl
   none_frame (head p k hs) a = not_both a
   none_frame (body h k) a = not_both a
 
-  none_held : (s : Held C) (f : Frame C) → InFrame C (λ p. true ≡ false) f → InHeld C (λ p. true ≡ false) P s → held_from C P s f ≡ none
+  none_held : (s : Held C) (f : Frame C) → InFrame C (λ p. true ≡ false) f → InHeld C (λ p. true ≡ false) P s → held_from C P s f ≡ None
   none_held free f a q = none_frame f a
   none_held (held t d) f a q = not_both q
 

@@ -4,10 +4,10 @@ use Prim.Native.Nat.{ℕ, ◌+◌}
 use mathlib.Core.Path.{◌≡◌, refl, sym, ap, ap₂, ◌∙◌, subst}
 use mathlib.Core.Logic.{◌⊎◌, inl, inr}
 use mathlib.Core.Bool.{Bool, true, false, cond}
-use mathlib.Core.Option.{Option, none, some}
 use mathlib.Core.List.{List, [], ◌∷◌, ◌++◌}
 use lib.Dec.{eqb, leb}
 use lib.ListN.{length}
+use Rattle.std.specs.Prelude.{Option, None, Some}
 use Rattle.receiver.specs.declared.kind.Kind.{Kind}
 use Rattle.receiver.specs.declared.kind.Kind.TheVariants.{Fill, Reserved, Complete, First, Middle, Last}
 use Rattle.receiver.specs.Frame.{Code, Event, lose, gap, opened, entered, fed, closed}
@@ -53,7 +53,7 @@ module _ (C : Code) (room : ℕ) (P : Placed C) (new : C.S → Bool) where
 
   -- ---- what an event leaves of an old packet, and of nothing
 
-  cond_old : (b : Bool) (t : C.T) (d : List C.K) (f : Option (Finding C)) → Old (P.from t) → Shadow (cond {A = Took C} b (held t d, none) (free, f)).0 free
+  cond_old : (b : Bool) (t : C.T) (d : List C.K) (f : Option (Finding C)) → Old (P.from t) → Shadow (cond {A = Took C} b (held t d, None) (free, f)).0 free
   cond_old true t d f o = older (held t d) o
   cond_old false t d f o = inl refl
 
@@ -62,12 +62,12 @@ module _ (C : Code) (room : ℕ) (P : Placed C) (new : C.S → Bool) where
   meets_old Reserved h t d o = inl refl
   meets_old Complete h t d o = inl refl
   meets_old First h t d o = inl refl
-  meets_old Middle h t d o = cond_old (eqb (C.sort t) (C.content h)) t d (some (notice 14 (C.place h))) o
-  meets_old Last h t d o = cond_old (eqb (C.sort t) (C.content h)) t d (some (notice 14 (C.place h))) o
+  meets_old Middle h t d o = cond_old (eqb (C.sort t) (C.content h)) t d (Some (notice 14 (C.place h))) o
+  meets_old Last h t d o = cond_old (eqb (C.sort t) (C.content h)) t d (Some (notice 14 (C.place h))) o
 
   further_old : (h : C.H) (t : C.T) (d : List C.K) → Old (P.from t) → Shadow (further C room h (held t d)).0 free
   further_old h t d o =
-      cond_old (leb (length d + C.size h) room) (C.join t h) d (some (notice 15 (C.place h))) (ap new (P.join_is t h) ∙ o)
+      cond_old (leb (length d + C.size h) room) (C.join t h) d (Some (notice 15 (C.place h))) (ap new (P.join_is t h) ∙ o)
 
   admit_old : (k : Kind) (h : C.H) (t : C.T) (d : List C.K) → Old (P.from t) → Shadow (admit C room k h (held t d)).0 (admit C room k h free).0
   admit_old Fill h t d o = inl refl

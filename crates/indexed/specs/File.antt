@@ -1,12 +1,9 @@
 -- The index as a file (R-8): its bytes, what a growth writes and in which order, and what may be left where it is killed.
 -- Assumes nothing; `Partly` says what is assumed of the file system.
-use Rattle.std.specs.Prelude.{ℕ, ◌+◌, ◌-◌, ◌≤◌, ◌<◌, ◌≡◌, ◌⊎◌, Bool, cond, ◌&&◌, List, [], ◌∷◌, ◌++◌, eqb, leb, ltb, length, take, drop}
-use Rattle.std.proofs.Math.Option.{Option, none, some}
+use Rattle.std.specs.Prelude.{ℕ, ◌+◌, ◌-◌, ◌≤◌, ◌<◌, ◌≡◌, ◌⊎◌, Bool, cond, ◌&&◌, List, [], ◌∷◌, ◌++◌, eqb, leb, ltb, length, take, drop, Option, None, Some}
 use Rattle.receiver.specs.declared.Stamp.{Stamp}
 use Rattle.receiver.specs.Tp.{Setting, Input}
 use Rattle.line_zero.specs.declared.Top.{Top}
-use Rattle.line_zero.specs.declared.Reads.{Reads}
-use Rattle.line_zero.specs.declared.Reads.TheVariants.{NoIndex, Says}
 use Rattle.indexing.specs.Lines.{Line, line_text}
 use Rattle.line_zero.specs.Top.{top_text, top_in, Small}
 use Rattle.indexed.specs.Index.{start_stamp, behind_all, Index, index_of, new_lines, new_since}
@@ -17,12 +14,12 @@ lines_text (l ∷ ls) = line_text l ++ lines_text ls
 
 -- line 0's numbers for the record named, 0 if none is
 abbrev pub number_of : Option Stamp → ℕ
-number_of none = 0
-number_of (some p) = p.number
+number_of None = 0
+number_of (Some p) = p.number
 
 abbrev pub byte_of : Option Stamp → ℕ
-byte_of none = 0
-byte_of (some p) = p.byte
+byte_of None = 0
+byte_of (Some p) = p.byte
 
 abbrev pub top_with : Stamp → Option Stamp → ℕ → Top
 top_with p since size = record { covered = p.number; since = number_of since; end = p.byte; from = byte_of since; size = size }
@@ -40,7 +37,7 @@ abbrev pub next_of : Top → Stamp
 next_of z = record { number = z.covered; byte = z.end }
 
 abbrev pub since_in : Top → Option Stamp
-since_in z = cond (eqb z.since 0) none (some (record { number = z.since; byte = z.from }))
+since_in z = cond (eqb z.since 0) None (Some (record { number = z.since; byte = z.from }))
 
 -- ---- writes
 
@@ -99,12 +96,12 @@ abbrev pub is_whole : Top → ℕ → Bool
 is_whole z bytes = leb 133 z.size && leb z.size bytes
 
 -- what a file of so many bytes with this line 0 gets; 23, and no index: nothing is written
-abbrev pub writes_by : Setting → Reads → ℕ → List Input → ℕ → List Write
-writes_by s NoIndex n zs rest = []
-writes_by s (Says z) n zs rest = cond (is_whole z n) (cond (covers_more z (bytes_of zs rest)) [] (growth s z zs)) []
+abbrev pub writes_by : Setting → Option Top → ℕ → List Input → ℕ → List Write
+writes_by s None n zs rest = []
+writes_by s (Some z) n zs rest = cond (is_whole z n) (cond (covers_more z (bytes_of zs rest)) [] (growth s z zs)) []
 
 abbrev pub empty_top : Top
-empty_top = top_with start_stamp none 133
+empty_top = top_with start_stamp None 133
 
 -- a file that is missing or shorter than line 0 becomes the empty index first
 unfoldable pub writes_of : Setting → List ℕ → List Input → ℕ → List Write

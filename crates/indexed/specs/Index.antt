@@ -1,7 +1,6 @@
 -- THE INDEX of a recording, as one definition over what the receiver's own definition finds in its records, and what growing makes
 -- of it (R-8). Each input is read with its record's number and first byte as stamp. Assumes nothing.
-use Rattle.std.specs.Prelude.{ℕ, suc, ◌+◌, ◌-◌, Bool, true, false, List, [], ◌∷◌, ◌++◌, length, drop}
-use Rattle.std.proofs.Math.Option.{Option, none, some}
+use Rattle.std.specs.Prelude.{ℕ, suc, ◌+◌, ◌-◌, Bool, true, false, List, [], ◌∷◌, ◌++◌, length, drop, Option, None, Some}
 use Rattle.receiver.specs.declared.Stamp.{Stamp}
 use Rattle.receiver.specs.declared.Place.{Place}
 use Rattle.receiver.specs.Frame.{Frame, lost, idle, head, body}
@@ -57,19 +56,19 @@ stand_at s p t (x ∷ xs) = stand_at s (behind p x) (record_of s p t x).1 xs
 
 -- "the unfinished EP": also a fill, one that is passed over, and a header that is cut
 abbrev pub under_way : Frame wire → Option Place
-under_way lost = none
-under_way idle = none
-under_way (head p k hs) = some p
-under_way (body h k) = some h.at
+under_way lost = None
+under_way idle = None
+under_way (head p k hs) = Some p
+under_way (body h k) = Some h.at
 
 -- "or held series (the older, if any)": a series that is held is the older
 abbrev pub unfinished : Held wire → Frame wire → Option Place
 unfinished free f = under_way f
-unfinished (held t d) f = some t.at
+unfinished (held t d) f = Some t.at
 
 abbrev pub stamp_in : Option Place → Option Stamp
-stamp_in none = none
-stamp_in (some p) = some p.stamp
+stamp_in None = None
+stamp_in (Some p) = Some p.stamp
 
 -- "at which record the unfinished EP or held series .. began"
 abbrev pub since_of : Stand → Option Stamp
@@ -91,8 +90,8 @@ index_of s xs = record {
 
 -- "growing reads from there, else from the first new record": where it stands before the first new record
 abbrev pub regrown : Setting → Option Stamp → List Input → Stand
-regrown s none xs = fresh
-regrown s (some p) xs = stand_at s p fresh (drop (p.number - 1) xs)
+regrown s None xs = fresh
+regrown s (Some p) xs = stand_at s p fresh (drop (p.number - 1) xs)
 
 -- "and lists nothing twice": of the covered records xs it only reads, of the new ones ys it lists
 abbrev pub new_lines : Setting → Stamp → Option Stamp → List Input → List Input → List Line

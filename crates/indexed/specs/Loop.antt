@@ -1,13 +1,11 @@
 -- WHAT THE INDEX PROGRAM'S LOOP WRITES (R-8): over what `index_loop::advance` promises, its output blocks hold the lines that `indexed.Index`
 -- defines for the records taken. Assumes nothing; `Of` says what is assumed of the operating system.
-use Rattle.std.specs.Prelude.{ℕ, ◌+◌, ◌≤◌, ◌<◌, ◌≡◌, ◌⊎◌, cond, List, [], ◌∷◌, ◌++◌, ltb, length, take, drop}
-use Rattle.std.proofs.Math.Option.{Option, none, some}
+use Rattle.std.specs.Prelude.{ℕ, ◌+◌, ◌≤◌, ◌<◌, ◌≡◌, ◌⊎◌, cond, List, [], ◌∷◌, ◌++◌, ltb, length, take, drop, Option, None, Some, Ok}
 use Rattle.block.specs.Block.{Block}
 use Rattle.console.specs.Taking.{stretch}
 use Rattle.console.specs.declared.Unread.{Unread}
 use Rattle.house.specs.Series.{unread_in}
 use Rattle.house.specs.Slices.{at_hand, data_in}
-use Rattle.house.specs.declared.AtHand.TheVariants.{Whole}
 use Rattle.house.specs.declared.Place.TheVariants.{Listing}
 use Rattle.house.specs.declared.Record.{Record}
 use Rattle.house.specs.declared.Record.TheVariants.{Packet, Gap}
@@ -15,8 +13,7 @@ use Rattle.receiver.specs.Call.{fresh_of, pending_of}
 use Rattle.receiver.specs.State.{Able}
 use Rattle.receiver.specs.Tp.{Setting, Stand, Input, tp_in, gap_told}
 use Rattle.receiver.specs.declared.Stamp.{Stamp}
-use Rattle.receiver.specs.declared.Unfinished.{Unfinished}
-use Rattle.receiver.specs.declared.Unfinished.TheVariants as U
+use Rattle.receiver.specs.declared.Place.{Place}
 use Rattle.indexing.specs.Lines.{Line}
 use Rattle.index_loop.specs.Advancing.{Reached, Advances, begun, takes, reads}
 use Rattle.index_loop.specs.declared.Task.{Task}
@@ -36,8 +33,8 @@ lines_since covered s p t (x ∷ xs) =
 abbrev pub Records : List ℕ → ℕ → List Input → ℕ → Type 0
 Records recording i [] k = i ≡ k
 Records recording i (tp_in d ∷ xs) k =
-    (at_hand Listing (drop i recording) ≡ Whole (Packet (length d))) × ((data_in (Packet (length d)) (drop i recording) ≡ d) × Records recording (i + 8 + length d) xs k)
-Records recording i (gap_told ∷ xs) k = (at_hand Listing (drop i recording) ≡ Whole Gap) × Records recording (i + 8) xs k
+    (at_hand Listing (drop i recording) ≡ Ok (Some (Packet (length d)))) × ((data_in (Packet (length d)) (drop i recording) ≡ d) × Records recording (i + 8 + length d) xs k)
+Records recording i (gap_told ∷ xs) k = (at_hand Listing (drop i recording) ≡ Ok (Some Gap)) × Records recording (i + 8) xs k
 
 -- the stretch of a block is the recording's, so many bytes of which were before the block
 abbrev pub Shows : List ℕ → List ℕ → Unread → Type 0
@@ -97,9 +94,9 @@ Counted b = (b.number < 0xFFFFFFFFFFFFFFFF) × (byte_at b < 0xFFFFFFFFFFFFFFFF)
 -- ---- what was written
 
 -- what `receiver::pending` tells, as line 0 names it
-abbrev pub stamp_by : Unfinished → Option Stamp
-stamp_by U.Nothing = none
-stamp_by (U.From g) = some g.stamp
+abbrev pub stamp_by : Option Place → Option Stamp
+stamp_by None = None
+stamp_by (Some g) = Some g.stamp
 
 -- between two TPs: the lines of the records taken, the next record's number and byte, and where what is unfinished began
 pub record Written (covered : ℕ) (s : Setting) (recording : List ℕ) (p : Stamp) (w : List ℕ) (b : Reached) : Type 0 where
@@ -115,7 +112,7 @@ pub record Within (covered : ℕ) (s : Setting) (recording : List ℕ) (p : Stam
   pub records : Records recording p.byte inputs (byte_at b)
   pub next : behind_all p inputs ≡ record { number = b.number; byte = byte_at b }
   pub size : ℕ
-  pub tp_at_hand : at_hand Listing (drop (byte_at b) recording) ≡ Whole (Packet size)
+  pub tp_at_hand : at_hand Listing (drop (byte_at b) recording) ≡ Ok (Some (Packet size))
   pub first : List ℕ
   pub others : List ℕ
   pub begun : w ≡ lines_text (lines_since covered s p fresh inputs) ++ first
@@ -123,7 +120,7 @@ pub record Within (covered : ℕ) (s : Setting) (recording : List ℕ) (p : Stam
 
 -- no whole record is at hand: the recording ends there or cannot be read, or a bad record follows
 abbrev pub Ended : Reached → Type 0
-Ended b = (r : Record) → at_hand Listing (stretch b.block b.unread) ≡ Whole r → ⊥
+Ended b = (r : Record) → at_hand Listing (stretch b.block b.unread) ≡ Ok (Some r) → ⊥
 
 -- THE STATEMENT: wherever it stops, and between two TPs where it ended
 abbrev pub Lists : Type 0
@@ -138,8 +135,8 @@ ListsAll = (covered : ℕ) (s : Setting) (recording : List ℕ) (p : Stamp) (a b
 
 -- "growing reads from there, else from the first new record"
 abbrev pub reads_from : Option Stamp → Stamp → Stamp
-reads_from none p = p
-reads_from (some q) p = q
+reads_from None p = p
+reads_from (Some q) p = q
 
 -- the index of the records xs and of new ones: what was written is what a growth adds, and with it these are its lines; the first record that
 -- is not covered, and the one that line 0 names

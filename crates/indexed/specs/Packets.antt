@@ -1,6 +1,5 @@
 -- The packets that a receiver hands out, of both sorts, in order. Assumes nothing.
-use Rattle.std.specs.Prelude.{Bool, true, false, cond, List, [], ◌∷◌}
-use Rattle.std.proofs.Math.Option.{Option, none, some}
+use Rattle.std.specs.Prelude.{Bool, true, false, cond, List, [], ◌∷◌, Option, None, Some}
 use Rattle.receiver.specs.Frame.{Code}
 use Rattle.receiver.specs.Join.{Finding, notice, low, ordinary}
 
@@ -28,8 +27,8 @@ module _ {A : Type 0} where
   chosen test (x ∷ xs) = cond (test x) (x ∷ chosen test xs) (chosen test xs)
 
   abbrev pub first : List A → Option A
-  first [] = none
-  first (x ∷ xs) = some x
+  first [] = None
+  first (x ∷ xs) = Some x
 
   abbrev pub All : (A → Type 0) → List A → Type 0
   All Q [] = Unit {0}

@@ -1,6 +1,5 @@
 -- R-8'S STATEMENTS: the index beside a recording, over `indexed.Index` and the receiver's own definitions. Assumes nothing.
-use Rattle.std.specs.Prelude.{ℕ, ◌-◌, ◌<◌, ◌≡◌, ◌⊎◌, Bool, true, false, not, ◌&&◌, List, [], ◌∷◌, ◌++◌, map, take, drop}
-use Rattle.std.proofs.Math.Option.{some}
+use Rattle.std.specs.Prelude.{ℕ, ◌-◌, ◌<◌, ◌≡◌, ◌⊎◌, Bool, true, false, not, ◌&&◌, List, [], ◌∷◌, ◌++◌, map, take, drop, Some}
 use Rattle.receiver.specs.declared.Stamp.{Stamp}
 use Rattle.receiver.specs.declared.Place.{Place}
 use Rattle.receiver.specs.Join.{held}
@@ -40,7 +39,7 @@ Earlier k i n j = (k < n) ⊎ ((k ≡ n) × (i < j))
 
 abbrev pub Older : Type 0
 Older = (s : Setting) (xs : List Input) (t : Tag) (d : List ℕ) (p : Place)
-    → (stand_at s start_stamp fresh xs).held ≡ held t d → under_way (stand_at s start_stamp fresh xs).frame ≡ some p
+    → (stand_at s start_stamp fresh xs).held ≡ held t d → under_way (stand_at s start_stamp fresh xs).frame ≡ Some p
     → Earlier t.at.stamp.number t.at.at p.stamp.number p.at ⊎ (t.at ≡ p)
 
 -- ---- lines of one sort rise, by record and place
@@ -70,4 +69,4 @@ sought l q = same_sort l.is_low q.is_low && at_or_after l.begun l.place (line_by
 
 abbrev pub FromLine : Type 0
 FromLine = (s : Setting) (xs : List Input) (before behind : List (Packet wire)) (q : Packet wire) → handed_out s xs ≡ before ++ q ∷ behind
-    → first (chosen (sought (line_by q)) (started_at s xs (line_by q).begun)) ≡ some q
+    → first (chosen (sought (line_by q)) (started_at s xs (line_by q).begun)) ≡ Some q

@@ -1,13 +1,13 @@
 -- A packet's line is its record and a listing's line; put piece by piece into a block with room for it, it is the line; and where the
 -- block was a text of its own, its start is the line. Assumes nothing.
-use Prim.Native.Nat.{ℕ, ◌+◌, ◌-◌, ◌≤◌, ◌<◌}
+use Prim.Native.Nat.{ℕ, ◌+◌, ◌≤◌, ◌<◌}
 use mathlib.Core.Path.{◌≡◌, refl, ap, sym, ◌∙◌}
 use mathlib.Core.Bool.{Bool, true, false, cond}
 use mathlib.Core.List.{List, [], ◌∷◌, ◌++◌, append_assoc}
 use native.Mathlib.Omega.{arith}
 use lib.ListN.{length, take, drop, length-append}
 use lib.Seq.{take-append_seam}
-use borrow.Author.Tests.{lt-ltb, le-ltb}
+use borrow.Author.Tests.{lt-ltb}
 use Rattle.block.specs.Block.{Block, placed, put}
 use Rattle.block.specs.Decimal.{decimal}
 use Rattle.block.proofs.Laws.{fits, then, block_of, room}
@@ -65,18 +65,15 @@ module _ (d : List ℕ) (long : 101 ≤ length d) (p : Place) (f : Find) (y : Li
   pub within : r ≤ length y
   within = omega (arith, room d y (packet_text p f) 0 r 0 e (omega (arith, packet_most p f)))
 
-  pub cut : take (r - 0) y ≡ packet_text p f
+  pub cut : take r y ≡ packet_text p f
   cut =
       let s : List ℕ = packet_text p f in
       let fit : 0 + length s ≤ length d = omega (arith, packet_most p f) in
       let both : block_of y r ≡ block_of (placed d 0 s) (0 + length s) = e ∙ fits d 0 s fit in
-      let size : r - 0 ≡ length s = omega (arith, ap (λ (b : Block). b.at) both) in
+      let size : r ≡ length s = omega (arith, ap (λ (b : Block). b.at) both) in
       ap (λ (k : ℕ). take k y) size ∙ ap (λ (b : Block). take (length s) b.bytes) both ∙ take-append_seam s (drop (0 + length s) d)
 
 -- ---- of a record that is not covered
 
 pub old : (covered r : ℕ) (p : Place) (f : Find) → r < covered → new_text covered r p f ≡ []
 old covered r p f h = ap (λ (b : Bool). cond b [] (find_text p f)) (lt-ltb r covered h)
-
-pub new : (covered r : ℕ) (p : Place) (f : Find) → covered ≤ r → new_text covered r p f ≡ find_text p f
-new covered r p f h = ap (λ (b : Bool). cond b [] (find_text p f)) (le-ltb r covered h)

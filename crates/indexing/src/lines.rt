@@ -8,17 +8,7 @@ use receiver::{Find, Place};
 fn is_packet(find: Find) -> bool
     ensures { result ≡ is_packet find }
 {
-    match find {
-        Find::Nothing => false,
-        Find::Refused => false,
-        Find::Notice(_) => false,
-        Find::Low {
-            content: _,
-            start: _,
-            len: _,
-        } => true,
-        Find::Ordinary { content: _, len: _ } => true,
-    }
+    matches!(find, Find::Low { .. } | Find::Ordinary { .. })
 }
 
 // Puts a packet's line, where the longest line has room: its record, its place, and what a listing says behind a TP's number.
@@ -39,13 +29,10 @@ pub fn line(began: Place, find: Find, out: &mut [u8], at: usize) -> usize
     if !is_packet(find) {
         return at;
     }
-    if out.len() < at {
-        return at;
-    }
-    if 101 <= out.len() - at {
+    if 101 <= out.len().saturating_sub(at) {
         return spell(began, find, out, at);
     }
     let mut text = [0u8; 101];
     let n = spell(began, find, &mut text, 0);
-    block::put(out, at, &text[0..n])
+    block::put(out, at, &text[..n])
 }

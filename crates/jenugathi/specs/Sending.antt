@@ -1,10 +1,16 @@
 -- What the sender's calls give to a program in C (document 01, "Sender"), over the definitions of crate `sender`. Assumes nothing.
-use Rattle.std.specs.Prelude.{List, true, ◌≡◌, ℕ}
+use Rattle.std.specs.Prelude.{List, true, ◌≡◌, ℕ, Result, Ok, Err, ⊤}
+use Rattle.sender.specs.declared.Refusal.{Refusal}
 use Rattle.sender.specs.declared.Sender.{Sender}
-use Rattle.sender.specs.Answers.{Given, done, refusal, Left, refused}
+use Rattle.sender.specs.Answers.{Given, done, refusal, Left, number, refused}
 use Rattle.sender.specs.Words.{words_of, sender_in, sound, of_words}
 
--- document 01's number, 0 where there is no refusal, and the state's words: a refusal leaves them as they were
+-- document 01's number, 0 where there is no refusal
+abbrev pub number_of : Result ⊤ Refusal → ℕ
+number_of (Ok u) = 0
+number_of (Err k) = number k
+
+-- that number, and the state's words: a refusal leaves them as they were
 pub record Told : Type 0 where
   pub number : ℕ
   pub state : List ℕ

@@ -3,15 +3,15 @@ ghost use Rattle.std.specs.Prelude.{◌≡◌, length};
 ghost use Rattle.chapter11.specs.Source.{left, composed_of, reassembled_of};
 ghost use Rattle.jenugathi.specs.Composing.{counted, made};
 
-use chapter11::Answer;
+use chapter11::Refusal;
 
 // Tells an answer in numbers.
-fn count(written: &mut u64, a: Answer) -> u32
+fn count(written: &mut u64, a: Result<usize, Refusal>) -> u32
     ensures { record { number = result; written = written.new } ≡ counted written.old a }
 {
     match a {
-        Answer::Refused(k) => k as u32,
-        Answer::Done(n) => {
+        Err(k) => u8::from(k) as u32,
+        Ok(n) => {
             *written = n as u64;
             0
         }

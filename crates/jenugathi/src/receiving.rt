@@ -4,23 +4,20 @@ ghost use Rattle.receiver.specs.Call.{find_number, opening_of};
 ghost use Rattle.receiver.specs.Words.{fitb, of_words};
 ghost use Rattle.jenugathi.specs.Receiving.{seven_of, find_words, or_zero, opened_to, gapped_to, NextAs};
 
-use receiver::words::Swift;
-use receiver::{About, Find, Opened};
+use receiver::{About, Find};
 
 // A find's words: sort, content or number, start and length, and what it carries.
 fn seven(sort: u64, what: u8, start: usize, len: usize, a: About) -> [u64; 7]
     ensures { result ≡ seven_of sort what start len a }
 {
-    let at = a.at;
-    let stamp = at.stamp;
     [
         sort,
         what as u64,
         start as u64,
         len as u64,
         a.repaired,
-        stamp.number,
-        at.at as u64,
+        a.at.stamp.number,
+        a.at.at as u64,
     ]
 }
 
@@ -45,15 +42,9 @@ fn number_of(f: Find) -> u32
     ensures { result ≡ or_zero (find_number f) }
 {
     match f {
-        Find::Nothing => 0,
+        Find::Nothing | Find::Low { .. } | Find::Ordinary { .. } => 0,
         Find::Refused => 1,
         Find::Notice(n) => n as u32,
-        Find::Low {
-            content: _,
-            start: _,
-            len: _,
-        } => 0,
-        Find::Ordinary { content: _, len: _ } => 0,
     }
 }
 
@@ -66,8 +57,8 @@ pub extern "C" fn c7_receiver_open(w: &mut [u64; 23], tp: usize, stream: u32, ro
         return 1;
     }
     match receiver::open(tp, stream as u8, room) {
-        Opened::Refused => 1,
-        Opened::Ready(r) => {
+        None => 1,
+        Some(r) => {
             *w = receiver::words::words_of(r);
             0
         }
@@ -80,8 +71,8 @@ pub extern "C" fn c7_receiver_gap(w: &mut [u64; 23]) -> u32
     ensures { record { number = result; state = w.new } ≡ gapped_to (of_words w.old) w.old }
 {
     match receiver::words::of_words(w) {
-        Opened::Refused => 1,
-        Opened::Ready(r) => {
+        None => 1,
+        Some(r) => {
             *w = receiver::words::words_of(receiver::gap(r));
             0
         }
@@ -94,18 +85,15 @@ fn call(w: &mut [u64; 23], tp: &[u8], room: &mut [u8], find: &mut [u64; 7]) -> u
     ensures { NextAs (of_words w.old) w.old tp.now room.old result w.new find.new room.new }
 {
     match receiver::words::next(w, tp, room) {
-        Swift::Gives { find: f, about: a } => {
-            *find = find_words(f, a);
-            number_of(f)
+        Some(q) => {
+            *find = find_words(q.find, q.about);
+            number_of(q.find)
         }
-        Swift::Other => {
+        None => {
             let q = receiver::next(receiver::words::receiver_in(w), tp, room);
-            let s = q.receiver;
-            let f = q.find;
-            let a = q.about;
-            *w = receiver::words::words_of(s);
-            *find = find_words(f, a);
-            number_of(f)
+            *w = receiver::words::words_of(q.receiver);
+            *find = find_words(q.find, q.about);
+            number_of(q.find)
         }
     }
 }

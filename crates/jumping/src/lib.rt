@@ -19,10 +19,7 @@ fn began_there(wanted: Wanted, began: Place) -> bool
     ensures { result ≡ begun_there wanted began }
 {
     let record = began.stamp.number;
-    if record == wanted.record {
-        return wanted.place <= began.at as u64;
-    }
-    wanted.record < record
+    wanted.record < record || record == wanted.record && wanted.place <= began.at as u64
 }
 
 // Whether a find is a packet of this sort.
@@ -30,15 +27,9 @@ fn is_sort(low: bool, find: Find) -> bool
     ensures { result ≡ is_sort low find }
 {
     match find {
-        Find::Nothing => false,
-        Find::Refused => false,
-        Find::Notice(_) => false,
-        Find::Low {
-            content: _,
-            start: _,
-            len: _,
-        } => low,
-        Find::Ordinary { content: _, len: _ } => !low,
+        Find::Low { .. } => low,
+        Find::Ordinary { .. } => !low,
+        Find::Nothing | Find::Refused | Find::Notice(_) => false,
     }
 }
 
@@ -46,10 +37,7 @@ fn is_sort(low: bool, find: Find) -> bool
 pub fn is_wanted(wanted: Wanted, began: Place, find: Find) -> bool
     ensures { result ≡ is_wanted wanted began find }
 {
-    if !is_sort(wanted.low, find) {
-        return false;
-    }
-    began_there(wanted, began)
+    is_sort(wanted.low, find) && began_there(wanted, began)
 }
 
 // Puts the record of a find that began at this place, with this data, if it is the packet asked for.

@@ -5,16 +5,19 @@
 
 mod queued;
 
-use sender::Answer;
+use sender::{Refusal, Sender};
 
 // A refusal stands as its number.
-fn print_offer(rt: &HostRuntime, sort: &[u8], sp: &[u8], a: Answer, queue: &[u8]) {
+fn print_offer(rt: &HostRuntime, sort: &[u8], sp: &[u8], a: Result<Sender, Refusal>, queue: &[u8]) {
     streams::print(rt, sort);
     streams::print_number(rt, sp.len() as u64);
     streams::print(rt, b":");
     match a {
-        Answer::Done(_) => queued::print_eps(rt, queue),
-        Answer::Refused(k) => queued::print_refusal(rt, k),
+        Ok(_) => queued::print_eps(rt, queue),
+        Err(k) => {
+            streams::print(rt, b" refused ");
+            streams::print_number(rt, u8::from(k) as u64);
+        }
     }
     streams::print(rt, b"\n");
 }
@@ -23,7 +26,7 @@ fn print_offer(rt: &HostRuntime, sort: &[u8], sp: &[u8], a: Answer, queue: &[u8]
 fn offer_ordinary(rt: &HostRuntime, sp: &[u8]) {
     let low = [0u8; 16];
     let mut ordinary = [0u8; 131090];
-    let Answer::Done(s) = sender::open(2051, 0, 65535, &low, &ordinary) else {
+    let Ok(s) = sender::open(2051, 0, 65535, &low, &ordinary) else {
         return;
     };
     let a = sender::offer_ordinary(s, &low, &mut ordinary, 1, sp);
@@ -34,7 +37,7 @@ fn offer_ordinary(rt: &HostRuntime, sp: &[u8]) {
 fn offer_low(rt: &HostRuntime, sp: &[u8]) {
     let mut low = [0u8; 16];
     let ordinary = [0u8; 16];
-    let Answer::Done(s) = sender::open(16, 0, 65535, &low, &ordinary) else {
+    let Ok(s) = sender::open(16, 0, 65535, &low, &ordinary) else {
         return;
     };
     let a = sender::offer_low(s, &mut low, &ordinary, 1, sp);
@@ -43,12 +46,12 @@ fn offer_low(rt: &HostRuntime, sp: &[u8]) {
 
 // The packet's first n bytes, each lent by a call of its own: parts that one function lends in turn are dear to check.
 fn ordinary_of(rt: &HostRuntime, packet: &[u8], n: usize) {
-    let end = queue::least(n, packet.len());
+    let end = n.min(packet.len());
     offer_ordinary(rt, &packet[0..end]);
 }
 
 fn low_of(rt: &HostRuntime, packet: &[u8], n: usize) {
-    let end = queue::least(n, packet.len());
+    let end = n.min(packet.len());
     offer_low(rt, &packet[0..end]);
 }
 

@@ -1,64 +1,38 @@
 // What a queue's bytes hold, read by the header of each EP.
-ghost use Rattle.std.specs.Prelude.{◌≡◌, ◌-◌, length};
-ghost use Rattle.std.proofs.Math.Option.{some};
-ghost use Rattle.sender.specs.Answers.{number as Answers·number};
+ghost use Rattle.std.specs.Prelude.{◌≡◌, ◌-◌, length, Some};
 ghost use Rattle.lengths.specs.Queued.{whole_of, ep_in};
 
-use sender::Refusal;
-use wire::{Header, Read};
+use wire::Header;
 
 #[derive(Clone, Copy)]
-pub enum Ep {
-    Nothing,
-    Whole { fragment: u8, size: usize },
-}
-
-// Document 01's number.
-fn number_of(k: Refusal) -> u64
-    ensures { result ≡ Answers·number k }
-{
-    match k {
-        Refusal::Limits => 1,
-        Refusal::Content => 2,
-        Refusal::Long => 3,
-        Refusal::Full => 4,
-        Refusal::Buffer => 5,
-    }
-}
-
-pub fn print_refusal(rt: &HostRuntime, k: Refusal) {
-    streams::print(rt, b" refused ");
-    streams::print_number(rt, number_of(k));
+pub struct Ep {
+    fragment: u8,
+    size: usize,
 }
 
 // The EP of a header that n bytes follow. Zeros read as fill, which nobody offers: a cleared queue ends there.
-fn whole_of(h: Header, n: usize) -> Ep
-    ensures { result ≡ whole_of n (some h) }
+fn whole_of(h: Header, n: usize) -> Option<Ep>
+    ensures { result ≡ whole_of n (Some h) }
 {
-    if h.content == 0 {
-        return Ep::Nothing;
+    if h.content == 0 || n < h.size {
+        return None;
     }
-    if n < h.size {
-        return Ep::Nothing;
-    }
-    Ep::Whole {
+    Some(Ep {
         fragment: h.fragment,
         size: h.size,
-    }
+    })
 }
 
 // The EP at the start of bytes.
-fn ep_in(bytes: &[u8]) -> Ep
+fn ep_in(bytes: &[u8]) -> Option<Ep>
     ensures { result ≡ ep_in bytes.now }
 {
     if bytes.len() < 6 {
-        return Ep::Nothing;
+        return None;
     }
     let six = digits::from_six(bytes[0], bytes[1], bytes[2], bytes[3], bytes[4], bytes[5]);
-    match wire::read_header(six) {
-        Read::Beyond => Ep::Nothing,
-        Read::Whole(h) => whole_of(h, bytes.len() - 6),
-    }
+    let header = wire::read_header(six)?;
+    whole_of(header, bytes.len() - 6)
 }
 
 fn print_flag(rt: &HostRuntime, fragment: u8) {
@@ -73,12 +47,9 @@ fn print_flag(rt: &HostRuntime, fragment: u8) {
 // Flag and length of each EP, from the queue's start on.
 pub fn print_eps(rt: &HostRuntime, queue: &[u8]) {
     let mut at = 0;
-    while at < queue.len() {
-        let Ep::Whole { fragment, size } = ep_in(&queue[at..]) else {
-            return;
-        };
-        print_flag(rt, fragment);
-        streams::print_number(rt, size as u64);
-        at += 6 + size;
+    while let Some(ep) = ep_in(&queue[at..]) {
+        print_flag(rt, ep.fragment);
+        streams::print_number(rt, ep.size as u64);
+        at += 6 + ep.size;
     }
 }

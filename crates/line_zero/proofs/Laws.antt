@@ -1,23 +1,23 @@
 -- Line 0 reads back: its text has 133 bytes, and what they say are its numbers. And what the loops over its digits hold.
 -- Assumes nothing.
 use Prim.Native.Nat.{ℕ, zero, suc, ◌+◌, ◌-◌, ◌*◌, ◌/◌, ◌%◌, ◌^◌, ◌≤◌, ◌<◌}
-use mathlib.Core.Path.{◌≡◌, refl, ap, ap₂, sym, subst, subst⁻¹, ◌∙◌}
-use mathlib.Core.Bool.{Bool, true, false, cond, ◌&&◌}
+use mathlib.Core.Path.{◌≡◌, refl, ap, ap₂, sym, subst⁻¹, ◌∙◌}
+use mathlib.Core.Bool.{Bool, true, false, cond}
 use mathlib.Core.List.{List, [], ◌∷◌, ◌++◌, append_assoc, append-nil}
 use native.Mathlib.Nat.{pow-suc, pow-le-pow_right, div-lt_iff_lt-mul}
 use native.Mathlib.Omega.{arith}
-use lib.Dec.{eqb, leb}
-use lib.ListN.{length, take, drop, set, get_or, length-append, length-set, length-drop, length-take, drop_of_length-le, take-append-drop}
-use lib.Seq.{length-take-le, take_all, take_at, drop_at, drop-drop, drop-append-add, drop-cons, take-suc, set_split}
-use borrow.Author.Tests.{le-leb, lt-leb, eq-eqb, ne_eqb}
-use Rattle.block.specs.Block.{Block, placed, put}
+use lib.Dec.{eqb}
+use lib.ListN.{length, take, drop, set, get_or, length-append, length-set, length-drop, length-take, drop_of_length-le}
+use lib.Seq.{length-take-le, take_at, drop_at, drop-append-add, drop-cons, take-suc, set_split}
+use borrow.Author.Tests.{le-leb, lt-leb}
+use Rattle.std.specs.Prelude.{Some, None}
+use lib.Pointwise.{pointwise, pointwise_long, bytes_decides}
+use Rattle.block.specs.Block.{Block, put}
 use Rattle.block.specs.Decimal.{padded}
 use Rattle.block.proofs.Laws.{fits, then, block_of, room}
 use Rattle.block.proofs.Decimals.{padded_long}
 use Rattle.line_zero.specs.declared.Top.{Top}
-use Rattle.line_zero.specs.declared.Reads.{Reads}
-use Rattle.line_zero.specs.declared.Reads.TheVariants.{NoIndex, Says}
-use Rattle.line_zero.specs.Top.{digits20, covered_word, since_word, end_word, from_word, size_word, field, top_text, digit_of, value_of, held, number_at, numbers_in, equal, top_in, Small}
+use Rattle.line_zero.specs.Top.{digits20, covered_word, since_word, end_word, from_word, size_word, field, top_text, digit_of, value_of, held, number_at, numbers_in, top_in, Small}
 
 -- ---- digits written from the last one on: those behind index i are there, those of rest are not
 
@@ -336,57 +336,14 @@ module _ (t : Top) (d : List ℕ) (size : length d ≡ 133) where
               ∙ append_assoc covered_word (digits20 t.covered) (with_since t (0x0A ∷ [])) in
               filled d (s₅ ++ (0x0A ∷ [])) y₆ r₆ p₆ full ∙ flat
 
--- ---- equal lists
-
-pub equal_same : (xs : List ℕ) → equal xs xs ≡ true
-equal_same [] = refl
-equal_same (x ∷ xs) = ap₂ (λ (a b : Bool). a && b) (eq-eqb x x refl) (equal_same xs)
-
-pub equal_long : (xs ys : List ℕ) → (length xs ≡ length ys → ⊥) → equal xs ys ≡ false
-equal_long [] [] n = absurd (n refl)
-equal_long [] (y ∷ ys) n = refl
-equal_long (x ∷ xs) [] n = refl
-equal_long (x ∷ xs) (y ∷ ys) n = ap (λ (b : Bool). eqb x y && b) (equal_long xs ys (λ e. n (ap suc e))) ∙ and_false (eqb x y)
-  where
-    and_false : (b : Bool) → (b && false) ≡ false
-    and_false true = refl
-    and_false false = refl
-
--- compared from the first byte on, up to index i
-pub record Compared (a b : List ℕ) (i : ℕ) : Type 0 where
-  pub rest : equal (drop i a) (drop i b) ≡ equal a b
-  pub within : i ≤ length a
-
-pub compared_none : (a b : List ℕ) → Compared a b 0
-compared_none a b = record { rest = refl; within = omega arith }
-
-module _ (a b : List ℕ) (i : ℕ) (in-a : i < length a) (in_b : i < length b) (c : Compared a b i) where
-  opened : equal (drop i a) (drop i b) ≡ (eqb (get_or a i 0) (get_or b i 0) && equal (drop (suc i) a) (drop (suc i) b))
-  opened = ap₂ (λ (x y : List ℕ). equal x y) (drop-cons a i 0 in-a) (drop-cons b i 0 in_b)
-
-  pub compared_not : (get_or a i 0 ≡ get_or b i 0 → ⊥) → false ≡ equal a b
-  compared_not n = sym (opened ∙ ap (λ (t : Bool). t && equal (drop (suc i) a) (drop (suc i) b)) (ne_eqb (get_or a i 0) (get_or b i 0) n)) ∙ c.rest
-
-  pub compared_one : get_or a i 0 ≡ get_or b i 0 → Compared a b (i + 1)
-  compared_one e =
-      let next : i + 1 ≡ suc i = omega arith in
-      subst⁻¹ (Compared a b) next
-      (record {
-        rest = sym (opened ∙ ap (λ (t : Bool). t && equal (drop (suc i) a) (drop (suc i) b)) (eq-eqb (get_or a i 0) (get_or b i 0) e)) ∙ c.rest;
-        within = in-a;
-      })
-
-pub compared_all : (a b : List ℕ) (i : ℕ) → length a ≤ i → length b ≤ i → Compared a b i → true ≡ equal a b
-compared_all a b i end-a end-b c = sym (ap₂ (λ (x y : List ℕ). equal x y) (drop_of_length-le a end-a) (drop_of_length-le b end-b)) ∙ c.rest
-
 -- THE LAW: what line 0 says is read back, whatever follows it
-pub top_back : (t : Top) (rest : List ℕ) → Small t → top_in (top_text t ++ rest) ≡ Says t
+pub top_back : (t : Top) (rest : List ℕ) → Small t → top_in (top_text t ++ rest) ≡ Some t
 unfolding top_in top_text
 top_back t rest small =
     let numbers : numbers_in (top_text t ++ rest) ≡ t = ap numbers_in (appended t (0x0A ∷ []) rest) ∙ numbers_back t small ((0x0A ∷ []) ++ rest) in
     let front : take 133 (top_text t ++ rest) ≡ top_text t = take_at (top_text t) rest 133 (top_width t) in
-    ap₂ (λ (x : List ℕ) (z : Top). cond (equal x (top_text z)) (Says z) NoIndex) front numbers
-    ∙ ap (λ (b : Bool). cond b (Says t) NoIndex) (equal_same (top_text t))
+    ap₂ (λ (x : List ℕ) (z : Top). cond (pointwise eqb x (top_text z)) (Some z) None) front numbers
+    ∙ ap (λ (b : Bool). cond b (Some t) None) ((bytes_decides (top_text t) (top_text t)).1 refl)
 
 -- ---- reading line 0
 
@@ -395,14 +352,17 @@ pub numbers_of : (s : List ℕ) (a b c d e : ℕ) → a ≡ number_at 8 s → b 
 unfolding numbers_in
 numbers_of s a b c d e p q r u v = rw (p, q, r, u, v)
 
-pub too_short : (s : List ℕ) → length s < 133 → NoIndex ≡ top_in s
+unequal : (xs ys : List ℕ) → (length xs ≡ length ys → ⊥) → pointwise eqb xs ys ≡ false
+unequal xs ys other = elim (pointwise eqb xs ys) as (λ t. (t ≡ true → length xs ≡ length ys) → t ≡ false) [ true ↦ λ h. absurd (other (h refl)) | false ↦ λ h. refl ] (pointwise_long eqb xs ys)
+
+pub too_short : (s : List ℕ) → length s < 133 → None ≡ top_in s
 unfolding top_in
 too_short s h =
     let other : length (take 133 s) ≡ length (top_text (numbers_in s)) → ⊥ = λ e. absurd (omega (arith, e, length-take 133 s, top_width (numbers_in s))) in
-    sym (ap (λ (b : Bool). cond b (Says (numbers_in s)) NoIndex) (equal_long (take 133 s) (top_text (numbers_in s)) other))
+    sym (ap (λ (b : Bool). cond b (Some (numbers_in s)) None) (unequal (take 133 s) (top_text (numbers_in s)) other))
 
-pub read_by : (s text : List ℕ) (z : Top) (b : Bool) → z ≡ numbers_in s → text ≡ top_text z → b ≡ equal (take (133 - 0) s) text → cond b (Says z) NoIndex ≡ top_in s
+pub read_by : (s text : List ℕ) (z : Top) (b : Bool) → z ≡ numbers_in s → text ≡ top_text z → b ≡ pointwise eqb (take 133 s) text → cond b (Some z) None ≡ top_in s
 unfolding top_in
 read_by s text z b numbers is same =
     let own : text ≡ top_text (numbers_in s) = is ∙ ap top_text numbers in
-    ap₂ (λ (x : Bool) (y : Top). cond x (Says y) NoIndex) (same ∙ ap (equal (take 133 s)) own) numbers
+    ap₂ (λ (x : Bool) (y : Top). cond x (Some y) None) (same ∙ ap (pointwise eqb (take 133 s)) own) numbers

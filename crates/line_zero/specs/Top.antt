@@ -1,11 +1,9 @@
 -- Line 0 of an index (R-8): "Line 0 states how many records are covered and at which record the unfinished EP or held series (the
 -- older, if any) began". It says beside that where in the files to go on, and has always 133 bytes. Assumes nothing.
-use Rattle.std.specs.Prelude.{ℕ, ◌+◌, ◌*◌, ◌%◌, ◌<◌, Bool, true, false, cond, ◌&&◌, List, [], ◌∷◌, ◌++◌, eqb, leb, take, drop}
-use Rattle.std.proofs.Math.Option.{Option, none, some}
+use Rattle.std.specs.Prelude.{ℕ, ◌+◌, ◌*◌, ◌%◌, ◌<◌, cond, List, [], ◌∷◌, ◌++◌, eqb, leb, take, drop, Option, Some, None}
+use Rattle.std.specs.Cmp.Lexicographic.{pointwise}
 use Rattle.block.specs.Decimal.{padded}
 use Rattle.line_zero.specs.declared.Top.{Top}
-use Rattle.line_zero.specs.declared.Reads.{Reads}
-use Rattle.line_zero.specs.declared.Reads.TheVariants.{NoIndex, Says}
 
 unfoldable pub digits20 : ℕ → List ℕ
 digits20 n = padded 20 n
@@ -62,16 +60,10 @@ number_at i s = held (value_of 0 (take 20 (drop i s)))
 unfoldable pub numbers_in : List ℕ → Top
 numbers_in s = record { covered = number_at 8 s; since = number_at 35 s; end = number_at 60 s; from = number_at 86 s; size = number_at 112 s }
 
-abbrev pub equal : List ℕ → List ℕ → Bool
-equal [] [] = true
-equal [] (y ∷ ys) = false
-equal (x ∷ xs) [] = false
-equal (x ∷ xs) (y ∷ ys) = eqb x y && equal xs ys
-
 -- what the first 133 bytes say: exactly these numbers' line 0, or they are no line 0
-unfoldable pub top_in : List ℕ → Reads
+unfoldable pub top_in : List ℕ → Option Top
 unfolding top_text numbers_in
-top_in s = cond (equal (take 133 s) (top_text (numbers_in s))) (Says (numbers_in s)) NoIndex
+top_in s = cond (pointwise eqb (take 133 s) (top_text (numbers_in s))) (Some (numbers_in s)) None
 
 -- numbers that line 0 gives back
 pub record Small (t : Top) : Type 0 where

@@ -3,7 +3,7 @@
 
 ghost use Rattle.std.specs.Prelude.{◌≡◌, ◌++◌, ◌+◌, ◌≤◌, ◌<◌, suc, length, take, drop};
 ghost use Rattle.block.specs.Block.{put};
-ghost use Rattle.line_zero.specs.Top.{digits20, top_text, digit_of, value_of, number_at, numbers_in, equal, top_in};
+ghost use Rattle.line_zero.specs.Top.{digits20, top_text, digit_of, value_of, number_at, numbers_in, top_in};
 
 // What line 0 says: how many records are covered, the setup counted; the record at which the unfinished EP or held series began, or
 // 0; the byte behind the last covered record; the byte at which record `since` begins, or 0; the bytes of the index, line 0 counted.
@@ -16,22 +16,13 @@ pub struct Top {
     pub size: u64,
 }
 
-// What the first bytes of a file say, if they are a line 0.
-#[derive(Clone, Copy)]
-pub enum Reads {
-    NoIndex,
-    Says(Top),
-}
-
 // A number's last 20 decimal digits.
 fn twenty(n: u64) -> [u8; 20]
     ensures { result ≡ digits20 n }
 {
     let mut digits = [0u8; 20];
     let mut rest = n;
-    let mut i = 20;
-    while 0 < i {
-        i -= 1;
+    for i in (0..20).rev() {
         digits[i] = 48 + (rest % 10) as u8;
         rest /= 10;
     }
@@ -83,10 +74,8 @@ fn value_of(s: &[u8]) -> u64
     ensures { result ≡ value_of 0 s.now }
 {
     let mut n = 0;
-    let mut i = 0;
-    while i < s.len() {
-        n = n * 10 + digit_of(s[i]);
-        i += 1;
+    for b in s {
+        n = n * 10 + digit_of(*b);
     }
     n
 }
@@ -118,34 +107,17 @@ fn numbers_in(s: &[u8]) -> Top
     }
 }
 
-// Whether two slices hold the same bytes.
-fn is_equal(a: &[u8], b: &[u8]) -> bool
-    ensures { result ≡ equal a.now b.now }
-{
-    if a.len() != b.len() {
-        return false;
-    }
-    let mut i = 0;
-    while i < a.len() {
-        if a[i] != b[i] {
-            return false;
-        }
-        i += 1;
-    }
-    true
-}
-
 // Reads line 0 at the start of s: its numbers' text must be it.
-pub fn read_top(s: &[u8]) -> Reads
+pub fn read_top(s: &[u8]) -> Option<Top>
     ensures { result ≡ top_in s.now }
 {
     if s.len() < 133 {
-        return Reads::NoIndex;
+        return None;
     }
     let top = numbers_in(s);
     let text = top_of(top);
-    if is_equal(&s[0..133], &text) {
-        return Reads::Says(top);
+    if &s[0..133] == text.as_slice() {
+        return Some(top);
     }
-    Reads::NoIndex
+    None
 }

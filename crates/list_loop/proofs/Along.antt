@@ -1,6 +1,6 @@
 -- From TP to TP in tracks: between two of them the receiver is its track's, and the lines of the records before are held. Assumes nothing.
-use Prim.Native.Nat.{ℕ, ◌+◌, ◌≤◌, ◌<◌}
-use mathlib.Core.Path.{◌≡◌, refl, ap, sym, subst⁻¹, ◌∙◌}
+use Prim.Native.Nat.{ℕ, ◌+◌, ◌≤◌}
+use mathlib.Core.Path.{◌≡◌, refl, ap, sym, subst, subst⁻¹, ◌∙◌}
 use mathlib.Core.Bool.{Bool, true, false, cond}
 use mathlib.Core.Logic.{inl, inr}
 use mathlib.Core.List.{List}
@@ -10,7 +10,7 @@ use lib.ListN.{length}
 use borrow.Author.Tests.{eqb-false}
 use Rattle.house.specs.Series.{unread_in}
 use Rattle.house.specs.Slices.{at_hand, data_in}
-use Rattle.house.specs.declared.AtHand.TheVariants.{Whole}
+use Rattle.std.specs.Prelude.{Ok, Some}
 use Rattle.house.specs.declared.Place.TheVariants.{Listing}
 use Rattle.house.specs.declared.Record.{Record}
 use Rattle.house.specs.declared.Record.TheVariants.{Packet}
@@ -21,6 +21,7 @@ use Rattle.receiver.specs.Place.{count_of, own_of}
 use Rattle.receiver.specs.State.{Able}
 use Rattle.receiver.specs.Tracks.{Kempt, Placed, TracksAs, lane_in, place_in}
 use Rattle.receiver.specs.declared.Receiver.{Receiver}
+use Rattle.receiver.specs.declared.Stage.{Stage}
 use Rattle.receiver.specs.declared.Stage.TheVariants.{Fresh}
 use Rattle.receiver.specs.declared.Stamp.{Stamp}
 use Rattle.receiver.specs.declared.lane.Lane.{Lane}
@@ -28,9 +29,11 @@ use Rattle.receiver.specs.declared.lane.Lane.TheVariants as L
 use Rattle.receiver.specs.declared.track.Track.{Track}
 use Rattle.receiver.proofs.Laning.{lane_able}
 use Rattle.receiver.proofs.Owning.{placed_lane}
-use Rattle.list_loop.specs.Lanes.{LeftAs, PassesBy, Steady, stage_by}
+use Rattle.list_loop.specs.Lanes.{LeftAs, LeftBy, PassesBy, Steady}
 use Rattle.list_loop.specs.Running.{Ahead, Listed}
 use Rattle.list_loop.specs.declared.Run.{Run}
+use Rattle.list_loop.specs.declared.lanes.Left.{Left}
+use Rattle.list_loop.specs.declared.lanes.Left.TheVariants.{All, Done, From}
 use Rattle.list_loop.specs.declared.lanes.Passed.{Passed}
 use Rattle.list_loop.proofs.Lists.{does_found, listed_as, listed_none, listed_then}
 
@@ -131,14 +134,17 @@ module _ (till : ℕ) (block : List ℕ) (first : Run) (m₀ out₀ : List ℕ) 
     left_by_lem : LeftAs q t b (count_of k) (in_lane b k (lane_in t) Fresh 0) (done + 1) x m out at m' out'
     left_by_lem = p k (stamp ∙ ap own_of counted) so.kempt so.full
 
+    left_is : (l : Left) → q.left ≡ l → LeftBy l q t b (count_of k) (in_lane b k (lane_in t) Fresh 0) (done + 1) x m out at m' out'
+    left_is l e = subst (λ (y : Left). LeftBy y q t b (count_of k) (in_lane b k (lane_in t) Fresh 0) (done + 1) x m out at m' out') e left_by_lem.left
+
     pub along_kempt : Kempt b.limit q.track
     along_kempt = left_by_lem.kempt
 
     -- not begun
-    pub along_all : q.left ≡ 0 → Along till block first m₀ out₀ k q.track done q.ten q.at from m' out'
+    pub along_all : q.left ≡ All → Along till block first m₀ out₀ k q.track done q.held.ten q.held.at from m' out'
     along_all e =
-        let h = left_by_lem.all e in
-        let g = along_same q.track ten q.at m' out' h.0 h.1 h.3 refl h.2 in
+        let h = left_is All e in
+        let g = along_same q.track ten q.held.at m' out' h.0 h.1 h.3 refl h.2 in
         record {
           sort = g.sort;
           kempt = g.kempt;
@@ -152,13 +158,13 @@ module _ (till : ℕ) (block : List ℕ) (first : Run) (m₀ out₀ : List ℕ) 
           listed = g.listed;
         }
 
-    module _ (said : Record) (size : ℕ) (whole : at_hand Listing (unread_in block from till) ≡ Whole said) (is : said ≡ Packet size) (tp : x ≡ data_in said (unread_in block from till)) where
+    module _ (said : Record) (size : ℕ) (whole : at_hand Listing (unread_in block from till) ≡ Ok (Some said)) (is : said ≡ Packet size) (tp : x ≡ data_in said (unread_in block from till)) where
       -- it ended
-      pub along_done : q.left ≡ 1 → from + 8 + length x ≤ till → length m' ≡ length m → length out' ≡ length out
-          → Along till block first m₀ out₀ k' q.track (done + 1) q.ten q.at (from + 8 + length x) m' out'
+      pub along_done : q.left ≡ Done → from + 8 + length x ≤ till → length m' ≡ length m → length out' ≡ length out
+          → Along till block first m₀ out₀ k' q.track (done + 1) q.held.ten q.held.at (from + 8 + length x) m' out'
       along_done e within room long =
-          let d = left_by_lem.done e in
-          let r = run_in first (count_of k) q.track (done + 1) q.at (from + 8 + length x) in
+          let d = left_is Done e in
+          let r = run_in first (count_of k) q.track (done + 1) q.held.at (from + 8 + length x) in
           let l = listed_then till block first m₀ out₀ (run_in first k t done at from) m out so.listed r m' out' said x whole tp
           (does_found said size x (run_in first k t done at from) m out r m' out' is (record { lines = d.lines; held = d.held; heard = inr (d.ends, (refl, refl)) })) in
           record {
@@ -171,30 +177,30 @@ module _ (till : ℕ) (block : List ℕ) (first : Run) (m₀ out₀ : List ℕ) 
             full = room ∙ so.full;
             room = room ∙ so.room;
             long = long ∙ so.long;
-            listed = subst⁻¹ (λ (i : ℕ). Listed till block first m₀ out₀ (run_in first i q.track (done + 1) q.at (from + 8 + length x)) m' out') counted l;
+            listed = subst⁻¹ (λ (i : ℕ). Listed till block first m₀ out₀ (run_in first i q.track (done + 1) q.held.at (from + 8 + length x)) m' out') counted l;
           }
 
       -- it has more to give
-      module _ (e : 1 < q.left) (z : Receiver) (back : z ≡ in_lane b k' (lane_in q.track) (stage_by q.left q.offset) q.place) where
-        back_is : z ≡ in_lane b (count_of k) (lane_in q.track) (stage_by q.left q.offset) q.place
-        back_is = back ∙ ap (λ (i : ℕ). in_lane b i (lane_in q.track) (stage_by q.left q.offset) q.place) counted
+      module _ (g : Stage) (i : ℕ) (e : q.left ≡ From g i) (z : Receiver) (back : z ≡ in_lane b k' (lane_in q.track) g i) where
+        back_is : z ≡ in_lane b (count_of k) (lane_in q.track) g i
+        back_is = back ∙ ap (λ (j : ℕ). in_lane b j (lane_in q.track) g i) counted
 
-        pub pause_ahead : Ahead first till (record { receiver = z; done = done; ten = q.ten; at = q.at; from = from })
+        pub pause_ahead : Ahead first till (record { receiver = z; done = done; ten = q.held.ten; at = q.held.at; from = from })
         pause_ahead =
             record {
-              able = subst⁻¹ Able back_is (left_by_lem.on e).0.able;
-              placed = subst⁻¹ Placed back (placed_lane b k' (lane_in q.track) (stage_by q.left q.offset) q.place);
+              able = subst⁻¹ Able back_is (left_is (From g i) e).0.able;
+              placed = subst⁻¹ Placed back (placed_lane b k' (lane_in q.track) g i);
               ten = steady.ten;
               from = so.past;
               end = so.end;
               count = so.count;
             }
 
-        pub pause_listed : Listed till block first m₀ out₀ (record { receiver = z; done = done; ten = q.ten; at = q.at; from = from }) m' out'
+        pub pause_listed : Listed till block first m₀ out₀ (record { receiver = z; done = done; ten = q.held.ten; at = q.held.at; from = from }) m' out'
         pause_listed =
-            let d = (left_by_lem.on e).0 in
-            let r : Run = record { receiver = in_lane b (count_of k) (lane_in q.track) (stage_by q.left q.offset) q.place; done = done; ten = q.ten; at = q.at; from = from } in
+            let d = (left_is (From g i) e).0 in
+            let r : Run = record { receiver = in_lane b (count_of k) (lane_in q.track) g i; done = done; ten = q.held.ten; at = q.held.at; from = from } in
             listed_as till block first m₀ out₀ r m' out'
             (listed_then till block first m₀ out₀ (run_in first k t done at from) m out so.listed r m' out' said x whole tp
             (does_found said size x (run_in first k t done at from) m out r m' out' is (record { lines = d.lines; held = d.held; heard = inl (d.hears, (refl, refl)) })))
-            z q.ten back_is
+            z q.held.ten back_is

@@ -10,12 +10,11 @@ use lib.ListN.{length, take, drop}
 use borrow.Author.Tests.{eqb-false, eqb-true, leb-false, leb-true, ne_eqb}
 use Rattle.queue.specs.Ring.{copied}
 use Rattle.block.specs.Block.{Block, put}
-use Rattle.block.specs.Decimal.{decimal}
 use Rattle.listing.specs.Hearing.{Hears, nothing, then, Ends, last}
-use Rattle.listing.specs.Lines.{line_of, rest_of}
+use Rattle.listing.specs.Lines.{line_of}
 use Rattle.listing.specs.Tens.{Kept}
 use Rattle.listing.specs.declared.Ten.{Ten}
-use Rattle.listing.proofs.Laws.{grows, line_held, line_of_lem}
+use Rattle.listing.proofs.Laws.{grows, line_held}
 use Rattle.receiver.specs.Call.{Gave, Gives, call_of, count_in, lasts}
 use Rattle.receiver.specs.Lanes.{AheadAs, Lends, MetAs, OutAs, Tidy, call_by, ends_in, in_lane, step_to}
 use Rattle.receiver.specs.Place.{own_of, place_at}
@@ -39,6 +38,8 @@ use Rattle.receiver.specs.declared.track.Track.{Track}
 use Rattle.receiver.proofs.LaneFirst.{own_later}
 use Rattle.receiver.proofs.Laning.{lane_able}
 use Rattle.list_loop.specs.Lanes.{BegunAs, DoneBy, Holds, LeadsBy, LedTo, RunsBy, Steady, ended, onward, stays}
+use Rattle.list_loop.specs.declared.lanes.Left.{Left}
+use Rattle.list_loop.specs.declared.lanes.Left.TheVariants.{Done, From}
 use Rattle.list_loop.specs.declared.lanes.Passed.{Passed}
 
 -- a test says one of two
@@ -56,9 +57,8 @@ no_other (suc (suc (suc (suc n)))) h a b c d = omega (arith, h)
 -- ---- a line
 
 pub line_put : (n : ℕ) (f : Find) (out : List ℕ) (at : ℕ) (out' : List ℕ) (at' : ℕ) → lasts f ≡ true → at < 61440 → 61520 ≤ length out
-    → ◌≡◌ {A = Block} (record { bytes = out'; at = at' }) (put out at (decimal n ++ rest_of f)) → (take at' out' ≡ take at out ++ line_of n f) × (at < at')
-line_put n f out at out' at' lasting few size e =
-    let is = e ∙ ap (put out at) (line_of_lem n f (λ z. not_both (lasts f) lasting (ap lasts z))) in
+    → ◌≡◌ {A = Block} (record { bytes = out'; at = at' }) (put out at (line_of n f)) → (take at' out' ≡ take at out ++ line_of n f) × (at < at')
+line_put n f out at out' at' lasting few size is =
     let room : at + 80 ≤ length out = omega arith in
     (line_held n f out out' at at' room is, grows n f out out' at at' room is lasting)
 
@@ -110,7 +110,7 @@ module _ {tp : List ℕ} {n : ℕ} {r : Receiver} {m₀ out₀ : List ℕ} {from
 
   -- none, which has no line
   pub done_with : (b : Receiver) (k : ℕ) (l : Lane) (t : Stamp) (m out : List ℕ) (at : ℕ) (q : Passed) → Given tp n r m₀ out₀ from (ends_in (in_lane b k l Fresh 0) t) m out at
-      → lane_in q.track ≡ l → q.at ≡ at → DoneBy q b k r n tp m₀ out₀ from m out
+      → lane_in q.track ≡ l → q.held.at ≡ at → DoneBy q b k r n tp m₀ out₀ from m out
   done_with b k l t m out at q g is same =
       record {
         lines = g.reached.lines ++ [];
@@ -209,10 +209,10 @@ module _ (s : Stamp) (n : ℕ) (tp : List ℕ) (due₀ : Bool) (place₀ c₀ le
         → Then due place n b k r tp m₀ out₀ from room out at
 
   -- what is left then
-  abbrev pub Led : Passed → Track → ℕ → ℕ → ℕ → List ℕ → List ℕ → Type 0
-  Led q t left offset here m' out' =
+  abbrev pub Led : Passed → Track → Left → List ℕ → List ℕ → Type 0
+  Led q t left m' out' =
       (b : Receiver) (k : ℕ) (r : Receiver) (m₀ : List ℕ) → Lends b place₀ tp room₀ → s ≡ own_of k → BegunAs due₀ place₀ c₀ len₀ b k r tp m₀ room₀
-      → LedTo due₀ q t left offset here b k r n tp m₀ room₀ out₀ from m' out'
+      → LedTo due₀ q t left b k r n tp m₀ room₀ out₀ from m' out'
 
   begun_now : (due : Bool) (place c len : ℕ) (b : Receiver) (k : ℕ) (r : Receiver) (m₀ : List ℕ) → BegunAs due place c len b k r tp m₀ room₀
       → Now due place c len n b k r tp m₀ out₀ from room₀ out₀ from
@@ -239,7 +239,7 @@ module _ (s : Stamp) (n : ℕ) (tp : List ℕ) (due₀ : Bool) (place₀ c₀ le
   module _ (due : Bool) (place c len : ℕ) (room out : List ℕ) (at : ℕ) (kept : Ten) (h : Head due place c len room out at kept) where
     -- a line put; or none, since none is due
     pub line_behind : (out' : List ℕ) (at' : ℕ) (kept' : Ten) → due ≡ true → 61520 ≤ length out₀ → length out' ≡ length out → Kept kept'
-        → ◌≡◌ {A = Block} (record { bytes = out'; at = at' }) (put out at (decimal n ++ rest_of (F.Ordinary c len))) → Behind due place room out' at' kept'
+        → ◌≡◌ {A = Block} (record { bytes = out'; at = at' }) (put out at (line_of n (F.Ordinary c len))) → Behind due place room out' at' kept'
     line_behind out' at' kept' is size long k e =
         let line = line_put n (F.Ordinary c len) out at out' at' refl h.few (omega (arith, size, h.long)) e in
         record {
@@ -307,53 +307,53 @@ module _ (s : Stamp) (n : ℕ) (tp : List ℕ) (due₀ : Bool) (place₀ c₀ le
     }
 
     -- the TP's end
-    pub ends_led : (l : Lane) (m' m'' : List ℕ) (v : Track) (q : Passed) (t : Track) (left offset here : ℕ) → AheadAs (M.Ends l) place s tp room m' → Some l → lane_in v ≡ l
-        → v.flips < 256 → m'' ≡ m' → q ≡ record { left = 1; offset = 0; place = 0; track = v; ten = kept; at = at } → record { steady : Steady q from; runs_by : Led q t left offset here m'' out }
-    ends_led l m' m'' v q t left offset here a some is flips em e =
-        let z : Passed = record { left = 1; offset = 0; place = 0; track = v; ten = kept; at = at } in record {
+    pub ends_led : (l : Lane) (m' m'' : List ℕ) (v : Track) (q : Passed) (t : Track) (left : Left) → AheadAs (M.Ends l) place s tp room m' → Some l → lane_in v ≡ l
+        → v.flips < 256 → m'' ≡ m' → q ≡ record { left = Done; track = v; held = record { ten = kept; at = at } } → record { steady : Steady q from; runs_by : Led q t left m'' out }
+    ends_led l m' m'' v q t left a some is flips em e =
+        let z : Passed = record { left = Done; track = v; held = record { ten = kept; at = at } } in record {
           steady = subst⁻¹ (λ (x : Passed). Steady x from) e
-              (record { ten = h.ten; at = h.more; left = omega arith; sort = sort_few v (subst⁻¹ Some is some) });
+              (record { ten = h.ten; at = h.more; sort = sort_few v (subst⁻¹ Some is some) });
           runs_by = λ b k r m₀ d o g.
-              subst⁻¹ (λ (x : Passed). LedTo due₀ x t left offset here b k r n tp m₀ room₀ out₀ from m'' out) e
-              (subst⁻¹ (λ (x : List ℕ). LedTo due₀ z t left offset here b k r n tp m₀ room₀ out₀ from x out) em
+              subst⁻¹ (λ (x : Passed). LedTo due₀ x t left b k r n tp m₀ room₀ out₀ from m'' out) e
+              (subst⁻¹ (λ (x : List ℕ). LedTo due₀ z t left b k r n tp m₀ room₀ out₀ from x out) em
               (ended refl
               (done_with b k l (own_of k) m' out at z (given_from (paused b k r m₀ d o g) (met_then (M.Ends l) m' a b k d o).0) is refl)
               (record { tidy = subst⁻¹ (Tidy b.limit) is (met_then (M.Ends l) m' a b k d o).1; flips = flips })));
         }
 
     -- between two EPs, behind a line
-    pub plain_led : (u v : Track) (q : Passed) (t : Track) (left offset here : ℕ) → due ≡ true → v ≡ turned_of u 1 → u.flips < 256
-        → q ≡ record { left = 2; offset = 0; place = place; track = v; ten = kept; at = at } → record { steady : Steady q from; runs_by : Led q t left offset here room out }
-    plain_led u v q t left offset here is ev flips eq =
-        let z : Passed = record { left = 2; offset = 0; place = place; track = turned_of u 1; ten = kept; at = at } in
-        let e : q ≡ z = eq ∙ ap (λ (x : Track). record { left = 2; offset = 0; place = place; track = x; ten = kept; at = at }) ev in record {
-          steady = subst⁻¹ (λ (x : Passed). Steady x from) e (record { ten = h.ten; at = h.more; left = omega arith; sort = omega arith });
+    pub plain_led : (u v : Track) (q : Passed) (t : Track) (left : Left) → due ≡ true → v ≡ turned_of u 1 → u.flips < 256
+        → q ≡ record { left = From Plain place; track = v; held = record { ten = kept; at = at } } → record { steady : Steady q from; runs_by : Led q t left room out }
+    plain_led u v q t left is ev flips eq =
+        let z : Passed = record { left = From Plain place; track = turned_of u 1; held = record { ten = kept; at = at } } in
+        let e : q ≡ z = eq ∙ ap (λ (x : Track). record { left = From Plain place; track = x; held = record { ten = kept; at = at } }) ev in record {
+          steady = subst⁻¹ (λ (x : Passed). Steady x from) e (record { ten = h.ten; at = h.more; sort = omega arith });
           runs_by = λ b k r m₀ d o g.
               let y = subst (λ (x : Bool). Then x place n b k r tp m₀ out₀ from room out at) is (h.ran b k r m₀ d o g) in
-              subst⁻¹ (λ (x : Passed). LedTo due₀ x t left offset here b k r n tp m₀ room₀ out₀ from room out) e
-              (onward refl
+              subst⁻¹ (λ (x : Passed). LedTo due₀ x t left b k r n tp m₀ room₀ out₀ from room out) e
+              (onward place refl
               (record { lines = y.lines; hears = y.hears; held = y.held; able = lane_able b k L.Idle Plain place d.size (omega arith) (omega (arith, h.within, d.whole)) (omega arith) })
               (h.some is)
               (record { tidy = omega arith; flips = flips }));
         }
 
     -- nowhere
-    pub stays_led : (q : Passed) (t : Track) (left offset here : ℕ) → due ≡ false → t.sort ≤ 3 → left ≤ 4
-        → q ≡ record { left = left; offset = offset; place = here; track = t; ten = kept; at = at } → record { steady : Steady q from; runs_by : Led q t left offset here room out }
-    stays_led q t left offset here is sort few e =
+    pub stays_led : (q : Passed) (t : Track) (left : Left) → due ≡ false → t.sort ≤ 3
+        → q ≡ record { left = left; track = t; held = record { ten = kept; at = at } } → record { steady : Steady q from; runs_by : Led q t left room out }
+    stays_led q t left is sort e =
         let same = h.same is in record {
-          steady = subst⁻¹ (λ (x : Passed). Steady x from) e (record { ten = h.ten; at = h.more; left = few; sort = sort });
+          steady = subst⁻¹ (λ (x : Passed). Steady x from) e (record { ten = h.ten; at = h.more; sort = sort });
           runs_by = λ b k r m₀ d o g.
-              subst⁻¹ (λ (x : Passed). LedTo due₀ x t left offset here b k r n tp m₀ room₀ out₀ from room out) e (stays same.0 refl refl refl refl same.3 same.1 same.2);
+              subst⁻¹ (λ (x : Passed). LedTo due₀ x t left b k r n tp m₀ room₀ out₀ from room out) e (stays same.0 refl refl same.3 same.1 same.2);
         }
 
     -- the TP's end, or what it cuts
-    pub sight_led : (a : Sight) (m'' : List ℕ) (v : Track) (q : Passed) (t : Track) (left offset here : ℕ) → Seen a place tp (length room) → (a.sort ≡ 1) ⊎ (a.sort ≡ 2)
-        → BehindAs v a s tp room m'' → q ≡ record { left = 1; offset = 0; place = 0; track = v; ten = kept; at = at } → record { steady : Steady q from; runs_by : Led q t left offset here m'' out }
-    sight_led a m'' v q t left offset here seen sort y e =
+    pub sight_led : (a : Sight) (m'' : List ℕ) (v : Track) (q : Passed) (t : Track) (left : Left) → Seen a place tp (length room) → (a.sort ≡ 1) ⊎ (a.sort ≡ 2)
+        → BehindAs v a s tp room m'' → q ≡ record { left = Done; track = v; held = record { ten = kept; at = at } } → record { steady : Steady q from; runs_by : Led q t left m'' out }
+    sight_led a m'' v q t left seen sort y e =
         ⊎_elim
-        (λ z. ends_led (tail_in a.from s tp) room m'' v q t left offset here ((seen.tail z).met s room) (tail_some (eqb (length tp - a.from) 0) (place_at s a.from) (length tp - a.from) _) (y.tail z).0 y.flips (y.tail z).1 e)
-        (λ z. ends_led (begins_in a s tp) (copied room 0 (take (part_of a tp) (drop (a.from + 6) tp))) m'' v q t left offset here ((seen.begins z).met s room refl) (omega arith) (y.begins z).0 y.flips (y.begins z).1 e)
+        (λ z. ends_led (tail_in a.from s tp) room m'' v q t left ((seen.tail z).met s room) (tail_some (eqb (length tp - a.from) 0) (place_at s a.from) (length tp - a.from) _) (y.tail z).0 y.flips (y.tail z).1 e)
+        (λ z. ends_led (begins_in a s tp) (copied room 0 (take (part_of a tp) (drop (a.from + 6) tp))) m'' v q t left ((seen.begins z).met s room refl) (omega arith) (y.begins z).0 y.flips (y.begins z).1 e)
         sort
 
     -- a whole EP, whose data are copied
@@ -367,13 +367,13 @@ module _ (s : Stamp) (n : ℕ) (tp : List ℕ) (due₀ : Bool) (place₀ c₀ le
 -- ---- behind the low-latency part
 
 module _ (s : Stamp) (n : ℕ) (tp : List ℕ) (t : Track) (offset here : ℕ) (m out : List ℕ) (at : ℕ) (kept : Ten) (k : Kept kept) where
-  pub off_led : (q : Passed) (left : ℕ) (m' : List ℕ) → m' ≡ m → t.sort ≤ 3 → left ≤ 4
-      → q ≡ record { left = left; offset = offset; place = here; track = t; ten = kept; at = at } → record { steady : Steady q at; leads_by : LeadsBy q t s left offset here n tp m out at m' out }
-  off_led q left m' em sort few e = record {
-    steady = subst⁻¹ (λ (x : Passed). Steady x at) e (record { ten = k; at = omega arith; left = few; sort = sort });
+  pub off_led : (q : Passed) (left : Left) (m' : List ℕ) → m' ≡ m → t.sort ≤ 3
+      → q ≡ record { left = left; track = t; held = record { ten = kept; at = at } } → record { steady : Steady q at; leads_by : LeadsBy q t s left offset here n tp m out at m' out }
+  off_led q left m' em sort e = record {
+    steady = subst⁻¹ (λ (x : Passed). Steady x at) e (record { ten = k; at = omega arith; sort = sort });
     leads_by = λ b k d o.
-        subst⁻¹ (λ (x : Passed). LedTo false x t left offset here b k (in_lane b k (lane_in t) (Due offset) here) n tp m m out at m' out) e
-        (stays refl refl refl refl refl refl em refl);
+        subst⁻¹ (λ (x : Passed). LedTo false x t left b k (in_lane b k (lane_in t) (Due offset) here) n tp m m out at m' out) e
+        (stays refl refl refl refl em refl);
   }
 
   module _ (w : Onto) (m₁ : List ℕ) (y : SetsOut w t offset here tp m m₁) (four : 4 ≤ here) (small : offset < 2048) where
@@ -382,16 +382,16 @@ module _ (s : Stamp) (n : ℕ) (tp : List ℕ) (t : Track) (offset here : ℕ) (
         → MetAs z b k (own_of k) (call_by (own_of k) (in_lane b k (lane_in t) (Due offset) here) tp m) tp m m₁
     met_out z a b k d = a b k (own_of k) d four small
 
-    pub over_led : (q : Passed) (left : ℕ) → w.sort ≡ 1 → q ≡ record { left = 1; offset = 0; place = 0; track = w.track; ten = kept; at = at }
+    pub over_led : (q : Passed) (left : Left) → w.sort ≡ 1 → q ≡ record { left = Done; track = w.track; held = record { ten = kept; at = at } }
         → record { steady : Steady q at; leads_by : LeadsBy q t s left offset here n tp m out at m₁ out }
     over_led q left is e =
         let a = y.over is in
-        let z : Passed = record { left = 1; offset = 0; place = 0; track = w.track; ten = kept; at = at } in record {
-          steady = subst⁻¹ (λ (x : Passed). Steady x at) e (record { ten = k; at = omega arith; left = omega arith; sort = a.0 });
+        let z : Passed = record { left = Done; track = w.track; held = record { ten = kept; at = at } } in record {
+          steady = subst⁻¹ (λ (x : Passed). Steady x at) e (record { ten = k; at = omega arith; sort = a.0 });
           leads_by = λ b k d o.
               let r = in_lane b k (lane_in t) (Due offset) here in
               let met = met_out (M.Ends (lane_in w.track)) a.1 b k d in
-              subst⁻¹ (λ (x : Passed). LedTo false x t left offset here b k r n tp m m out at m₁ out) e
+              subst⁻¹ (λ (x : Passed). LedTo false x t left b k r n tp m m out at m₁ out) e
               (ended refl
               (done_with b k (lane_in w.track) (own_of k) m₁ out at z (given_from (paused_in b k (lane_in t) (Due offset) here refl reached_none) met.0) refl refl)
               (record { tidy = met.1; flips = y.flips }));
@@ -414,19 +414,19 @@ module _ (s : Stamp) (n : ℕ) (tp : List ℕ) (t : Track) (offset here : ℕ) (
         (record { repaired = a.0; at = a.1.0 }, subst⁻¹ (λ (x : Gave). Gives x (step_to (in_lane b k L.Idle Plain w.place) (F.Ordinary w.content w.len) (record { repaired = a.0; at = a.1.0 })) tp m₁) own met.0))
         sort
 
-    stays_same : (q : Passed) (left : ℕ) (m' out' : List ℕ) (b : Receiver) (k : ℕ) → Lends b here tp m → (w.sort ≡ 2) ⊎ (w.sort ≡ 3)
-        → LedTo (eqb w.sort 3) q w.track left offset here b k (in_lane b k (lane_in t) (Due offset) here) n tp m m₁ out at m' out'
-        → LedTo false q t left offset here b k (in_lane b k (lane_in t) (Due offset) here) n tp m m out at m' out'
+    stays_same : (q : Passed) (left : Left) (m' out' : List ℕ) (b : Receiver) (k : ℕ) → Lends b here tp m → (w.sort ≡ 2) ⊎ (w.sort ≡ 3)
+        → LedTo (eqb w.sort 3) q w.track left b k (in_lane b k (lane_in t) (Due offset) here) n tp m m₁ out at m' out'
+        → LedTo false q t left b k (in_lane b k (lane_in t) (Due offset) here) n tp m m out at m' out'
     stays_same q left m' out' b k d sort (ended e x z) = ended e x z
-    stays_same q left m' out' b k d sort (onward e x more z) = onward e x more z
-    stays_same q left m' out' b k d sort (stays none el eo ep et ea em eu) =
+    stays_same q left m' out' b k d sort (onward i e x more z) = onward i e x more z
+    stays_same q left m' out' b k d sort (stays none el et ea em eu) =
         ⊎_elim
-        (λ z. stays refl el eo ep (et ∙ (y.at z).0) ea (em ∙ (met_out (M.Reads w.place) (y.at z).2 b k d).0) eu)
+        (λ z. stays refl el (et ∙ (y.at z).0) ea (em ∙ (met_out (M.Reads w.place) (y.at z).2 b k d).0) eu)
         (λ z. absurd (not_both (eqb w.sort 3) (ap (λ (x : ℕ). eqb x 3) z) none))
         sort
 
-    pub on_led : (q : Passed) (left : ℕ) (m' out' : List ℕ) → length m₁ ≡ length m → w.place ≤ length tp → (w.sort ≡ 2) ⊎ (w.sort ≡ 3)
-        → RunsBy q w s left offset here n tp m₁ out at m' out' → LeadsBy q t s left offset here n tp m out at m' out'
+    pub on_led : (q : Passed) (left : Left) (m' out' : List ℕ) → length m₁ ≡ length m → w.place ≤ length tp → (w.sort ≡ 2) ⊎ (w.sort ≡ 3)
+        → RunsBy q w s left n tp m₁ out at m' out' → LeadsBy q t s left offset here n tp m out at m' out'
     on_led q left m' out' same within sort ran b k d o =
         stays_same q left m' out' b k d sort
         (ran b k (in_lane b k (lane_in t) (Due offset) here) m (record { size = d.size; whole = d.whole; full = same ∙ d.full; within = within }) o (begun_as b k d sort))

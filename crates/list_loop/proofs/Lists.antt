@@ -8,7 +8,7 @@ use native.Mathlib.Omega.{arith}
 use lib.ListN.{length, take, length-take, length-append}
 use Rattle.house.specs.Series.{unread_in}
 use Rattle.house.specs.Slices.{at_hand, data_in}
-use Rattle.house.specs.declared.AtHand.TheVariants.{Whole}
+use Rattle.std.specs.Prelude.{Some, Ok}
 use Rattle.house.specs.declared.Place.TheVariants.{Listing}
 use Rattle.house.specs.declared.Record.{Record}
 use Rattle.house.specs.declared.Record.TheVariants.{Setup, Ordinary, Low, Draw, Packet, Gap}
@@ -117,7 +117,7 @@ module _ (till : ℕ) (block : List ℕ) (first : Run) (m₀ out₀ : List ℕ) 
   held_on : (ls : List ℕ) → take r.at out' ≡ take run.at out ++ ls → take r.at out' ≡ take first.at out₀ ++ (l.lines ++ ls)
   held_on ls e = e ∙ ap (λ (z : List ℕ). z ++ ls) l.held ∙ append_assoc (take first.at out₀) l.lines ls
 
-  by_tp : (n : ℕ) → at_hand Listing u ≡ Whole (Packet n) → Found (data_in (Packet n) u) run m out r m' out' → Listed till block first m₀ out₀ r m' out'
+  by_tp : (n : ℕ) → at_hand Listing u ≡ Ok (Some (Packet n)) → Found (data_in (Packet n) u) run m out r m' out' → Listed till block first m₀ out₀ r m' out'
   by_tp n whole f =
       record {
         lines = l.lines ++ f.lines;
@@ -129,7 +129,7 @@ module _ (till : ℕ) (block : List ℕ) (first : Run) (m₀ out₀ : List ℕ) 
         held = held_on f.lines f.held;
       }
 
-  by_gap : at_hand Listing u ≡ Whole Gap → Told run m out r m' out' → Listed till block first m₀ out₀ r m' out'
+  by_gap : at_hand Listing u ≡ Ok (Some Gap) → Told run m out r m' out' → Listed till block first m₀ out₀ r m' out'
   by_gap whole t =
       let same : record { from = run.from + 8; done = run.done; receiver = gap_of run.receiver; room = m } ≡ standing r m' =
       ap (λ (x : Receiver). record { from = run.from + 8; done = run.done; receiver = x; room = m }) (sym t.receiver)
@@ -141,7 +141,7 @@ module _ (till : ℕ) (block : List ℕ) (first : Run) (m₀ out₀ : List ℕ) 
         held = ap (λ (x : List ℕ). take r.at x) t.out ∙ ap (λ (n : ℕ). take n out) t.at ∙ l.held;
       }
 
-  by_record : (said : Record) → Read said → at_hand Listing u ≡ Whole said → Does said (data_in said u) run m out r m' out' → Listed till block first m₀ out₀ r m' out'
+  by_record : (said : Record) → Read said → at_hand Listing u ≡ Ok (Some said) → Does said (data_in said u) run m out r m' out' → Listed till block first m₀ out₀ r m' out'
   by_record Setup k whole d = absurd k
   by_record (Ordinary c n) k whole d = absurd k
   by_record (Low c n) k whole d = absurd k
@@ -149,7 +149,7 @@ module _ (till : ℕ) (block : List ℕ) (first : Run) (m₀ out₀ : List ℕ) 
   by_record (Packet n) k whole d = by_tp n whole d
   by_record Gap k whole d = by_gap whole d
 
-  pub listed_then : (said : Record) (x : List ℕ) → at_hand Listing u ≡ Whole said → x ≡ data_in said u → Does said x run m out r m' out'
+  pub listed_then : (said : Record) (x : List ℕ) → at_hand Listing u ≡ Ok (Some said) → x ≡ data_in said u → Does said x run m out r m' out'
       → Listed till block first m₀ out₀ r m' out'
   listed_then said x whole is d =
       by_record said (listing_reads u said whole) whole (subst (λ (y : List ℕ). Does said y run m out r m' out') is d)

@@ -1,16 +1,15 @@
 -- The low-latency part, by calls; and the payload, by the calls of both parts. Assumes nothing.
 use Prim.Native.Nat.{ℕ, ◌+◌, ◌≤◌, ◌<◌}
 use mathlib.Core.Path.{◌≡◌, refl, ap, sym, subst, subst⁻¹, ◌∙◌}
-use mathlib.Core.Bool.{Bool, true, false}
+use mathlib.Core.Bool.{Bool, true, false, cond}
 use mathlib.Core.List.{List, ◌++◌, append_assoc, append-nil}
 use native.Mathlib.Omega.{arith}
-use lib.Dec.{leb}
+use lib.Dec.{eqb, leb}
 use lib.ListN.{length, take}
-use borrow.Author.Tests.{leb-false, leb-true}
+use borrow.Author.Tests.{eqb-false, eqb-true, leb-false, leb-true}
 use Rattle.block.specs.Block.{Block, put}
-use Rattle.block.specs.Decimal.{decimal}
 use Rattle.listing.specs.Hearing.{Hears, nothing, then, Ends, last}
-use Rattle.listing.specs.Lines.{line_of, rest_of}
+use Rattle.listing.specs.Lines.{line_of}
 use Rattle.listing.specs.Tens.{Kept}
 use Rattle.listing.specs.declared.Ten.{Ten}
 use Rattle.receiver.specs.Lanes.{Lends, LowAs, Tidy, call_by, in_lane}
@@ -19,7 +18,6 @@ use Rattle.receiver.specs.State.{Able}
 use Rattle.receiver.specs.Tracks.{BriefAs, Kempt, lane_in}
 use Rattle.receiver.specs.declared.Find.TheVariants as F
 use Rattle.receiver.specs.declared.Receiver.{Receiver}
-use Rattle.receiver.specs.declared.Stage.{Stage}
 use Rattle.receiver.specs.declared.Stage.TheVariants.{Low, Due}
 use Rattle.receiver.specs.declared.Stamp.{Stamp}
 use Rattle.receiver.specs.declared.lane.Lane.{Lane}
@@ -28,7 +26,9 @@ use Rattle.receiver.specs.declared.track.Brief.{Brief}
 use Rattle.receiver.specs.declared.track.Track.{Track}
 use Rattle.receiver.proofs.LaneFirst.{low_as}
 use Rattle.receiver.proofs.Laning.{StageAt, lane_able}
-use Rattle.list_loop.specs.Lanes.{Holds, LeadsBy, LeavesBy, LedTo, LeftAs, OnBy, PartSteady, PartedBy, Steady, ended, onward, stage_by, start_stage, stays}
+use Rattle.list_loop.specs.Lanes.{Holds, LeadsBy, LeavesBy, LedTo, LeftAs, LeftBy, OnBy, PartSteady, PartedBy, Steady, ended, onward, part_left, start_stage, stays}
+use Rattle.list_loop.specs.declared.lanes.Left.{Left}
+use Rattle.list_loop.specs.declared.lanes.Left.TheVariants.{All, From}
 use Rattle.list_loop.specs.declared.lanes.Parted.{Parted}
 use Rattle.list_loop.specs.declared.lanes.Passed.{Passed}
 use Rattle.list_loop.proofs.Leading.{Reached, given_from, line_put, not_both, paused_in, reached_none, reached_then}
@@ -79,7 +79,7 @@ module _ (n : ℕ) (tp out₀ : List ℕ) (from : ℕ) where
     -- an LLEP more
     pub parts_then : (l : Brief) (out' : List ℕ) (at' : ℕ) (kept' : Ten) → within ≡ true → l.found ≡ true → BriefAs l.found l tp place → at < 61440 → 61520 ≤ length out₀
         → length out' ≡ length out → Kept kept'
-        → ◌≡◌ {A = Block} (record { bytes = out'; at = at' }) (put out at (decimal n ++ rest_of (F.Low l.content (place + 6) l.size)))
+        → ◌≡◌ {A = Block} (record { bytes = out'; at = at' }) (put out at (line_of n (F.Low l.content (place + 6) l.size)))
         → Parts l.more (place + 7 + l.size) out' at' kept'
     parts_then l out' at' kept' is found brief few size long k e =
         let y = subst (λ (x : Bool). BriefAs x l tp place) found brief in
@@ -105,7 +105,7 @@ module _ (n : ℕ) (tp out₀ : List ℕ) (from : ℕ) where
     decided true e z = h.some (leb-true 5 place e)
     decided false e z = absurd (not_both within (h.none (omega (arith, leb-false 5 place e, h.four))).2 z)
 
-    pub parts_steady : PartSteady (record { within = within; place = place; ten = kept; at = at }) tp out₀ out from
+    pub parts_steady : PartSteady (record { within = within; place = place; held = record { ten = kept; at = at } }) tp out₀ out from
     parts_steady = record {
       ten = h.ten;
       at = h.more;
@@ -116,7 +116,7 @@ module _ (n : ℕ) (tp out₀ : List ℕ) (from : ℕ) where
       behind = decided (leb 5 place) refl;
     }
 
-    pub parts_by : PartedBy (record { within = within; place = place; ten = kept; at = at }) n tp out₀ from out
+    pub parts_by : PartedBy (record { within = within; place = place; held = record { ten = kept; at = at } }) n tp out₀ from out
     parts_by b k l o m d t small =
         let y = h.ran b k l o m d t small in
         record {
@@ -144,47 +144,38 @@ holds_on out at ls out₁ at₁ ms out₂ at₂ e f = f ∙ ap (λ (z : List ℕ
 -- ---- the payload
 
 -- without a low-latency part
-left_plain : (q : Passed) (t : Track) (o : ℕ) (b : Receiver) (k : ℕ) (r : Receiver) (n : ℕ) (tp m out : List ℕ) (at : ℕ) (m' out' : List ℕ) → Kempt b.limit t
-    → LedTo false q t 0 o 4 b k r n tp m m out at m' out' → LeftAs q t b k r n tp m out at m' out'
-left_plain q t o b k r n tp m out at m' out' y (ended e d z) =
-    record { all = λ f. absurd (omega (arith, e, f)); done = λ f. d; on = λ f. absurd (omega (arith, e, f)); kempt = z }
-left_plain q t o b k r n tp m out at m' out' y (onward e d more z) =
-    record { all = λ f. absurd (omega (arith, e, f)); done = λ f. absurd (omega (arith, e, f)); on = λ f. (d, more); kempt = z }
-left_plain q t o b k r n tp m out at m' out' y (stays none el eo ep et ea em eu) =
-    record { all = λ f. (em, eu, ea, et); done = λ f. absurd (omega (arith, el, f)); on = λ f. absurd (omega (arith, el, f)); kempt = subst⁻¹ (Kempt b.limit) et y }
+left_plain : (q : Passed) (t : Track) (b : Receiver) (k : ℕ) (r : Receiver) (n : ℕ) (tp m out : List ℕ) (at : ℕ) (m' out' : List ℕ) → Kempt b.limit t
+    → LedTo false q t All b k r n tp m m out at m' out' → LeftAs q t b k r n tp m out at m' out'
+left_plain q t b k r n tp m out at m' out' y (ended e d z) =
+    record { left = subst⁻¹ (λ (l : Left). LeftBy l q t b k r n tp m out at m' out') e d; kempt = z }
+left_plain q t b k r n tp m out at m' out' y (onward i e d more z) =
+    record { left = subst⁻¹ (λ (l : Left). LeftBy l q t b k r n tp m out at m' out') e (d, more); kempt = z }
+left_plain q t b k r n tp m out at m' out' y (stays none el et ea em eu) =
+    record { left = subst⁻¹ (λ (l : Left). LeftBy l q t b k r n tp m out at m' out') el (em, eu, ea, et); kempt = subst⁻¹ (Kempt b.limit) et y }
 
 -- behind one
 module _ (q : Passed) (t : Track) (o here : ℕ) (b : Receiver) (k : ℕ) (r r₁ : Receiver) (n : ℕ) (tp m out : List ℕ) (at : ℕ) (out₁ : List ℕ) (at₁ : ℕ) (ls : List ℕ) (m' out' : List ℕ)
     (h : Hears tp n r m ls r₁ m) (is : r₁ ≡ in_lane b k (lane_in t) (Due o) here) (held : Holds out at ls out₁ at₁) (able : Able r₁) (some : at < at₁) (y : Kempt b.limit t) where
-  left_behind : LedTo false q t 3 o here b k r₁ n tp m m out₁ at₁ m' out' → LeftAs q t b k r n tp m out at m' out'
-  left_behind (ended e d z) = record {
-    all = λ f. absurd (omega (arith, e, f));
-    done = λ f. record { lines = ls ++ d.lines; ends = ends_on h d.ends; held = holds_on out at ls out₁ at₁ d.lines out' q.at held d.held };
-    on = λ f. absurd (omega (arith, e, f));
-    kempt = z;
-  }
-  left_behind (onward e d more z) = record {
-    all = λ f. absurd (omega (arith, e, f));
-    done = λ f. absurd (omega (arith, e, f));
-    on = λ f. (record { lines = ls ++ d.lines; hears = hears_on h d.hears; held = holds_on out at ls out₁ at₁ d.lines out' q.at held d.held; able = d.able }, omega (arith, more, some));
-    kempt = z;
-  }
-  left_behind (stays none el eo ep et ea em eu) = record {
-    all = λ f. absurd (omega (arith, el, f));
-    done = λ f. absurd (omega (arith, el, f));
-    on = λ f. (due, omega (arith, ea, some));
-    kempt = subst⁻¹ (Kempt b.limit) et y;
-  }
-    where
-      there : in_lane b k (lane_in q.track) (stage_by q.left q.offset) q.place ≡ r₁
-      there =
-          ap (λ (x : Track). in_lane b k (lane_in x) (stage_by q.left q.offset) q.place) et
-          ∙ ap (λ (x : ℕ). in_lane b k (lane_in t) (stage_by x q.offset) q.place) el
-          ∙ ap (λ (x : ℕ). in_lane b k (lane_in t) (Due x) q.place) eo
-          ∙ ap (λ (x : ℕ). in_lane b k (lane_in t) (Due o) x) ep
-          ∙ sym is
+  abbrev Leaves : Left → Type 0
+  Leaves l = LeftBy l q t b k r n tp m out at m' out'
 
-      due : OnBy q b k r n tp m out at m' out'
+  left_behind : LedTo false q t (From (Due o) here) b k r₁ n tp m m out₁ at₁ m' out' → LeftAs q t b k r n tp m out at m' out'
+  left_behind (ended e d z) = record {
+    left = subst⁻¹ Leaves e (record { lines = ls ++ d.lines; ends = ends_on h d.ends; held = holds_on out at ls out₁ at₁ d.lines out' q.held.at held d.held });
+    kempt = z;
+  }
+  left_behind (onward i e d more z) = record {
+    left =
+        subst⁻¹ Leaves e
+        (record { lines = ls ++ d.lines; hears = hears_on h d.hears; held = holds_on out at ls out₁ at₁ d.lines out' q.held.at held d.held; able = d.able }, omega (arith, more, some));
+    kempt = z;
+  }
+  left_behind (stays none el et ea em eu) = record { left = subst⁻¹ Leaves el (due, omega (arith, ea, some)); kempt = subst⁻¹ (Kempt b.limit) et y }
+    where
+      there : in_lane b k (lane_in q.track) (Due o) here ≡ r₁
+      there = ap (λ (x : Track). in_lane b k (lane_in x) (Due o) here) et ∙ sym is
+
+      due : OnBy q (Due o) here b k r n tp m out at m' out'
       due = record {
         lines = ls;
         hears = subst⁻¹ (λ (x : Receiver). Hears tp n r m ls x m') there (subst⁻¹ (λ (x : List ℕ). Hears tp n r m ls r₁ x) em h);
@@ -193,76 +184,67 @@ module _ (q : Passed) (t : Track) (o here : ℕ) (b : Receiver) (k : ℕ) (r r�
       }
 
 module _ (t : Track) (s : Stamp) (low : Bool) (o n : ℕ) (tp m out : List ℕ) (at : ℕ) (sort : t.sort ≤ 3) (small : o < 2048) where
-  -- all of it
-  pub payload_all : (p : Parted) (out₁ : List ℕ) (q : Passed) → PartSteady p tp out out₁ at → p.place ≡ 4
-      → q ≡ record { left = 0; offset = 0; place = 4; track = t; ten = p.ten; at = p.at }
-      → record { steady : Steady q at; leaves_by : LeavesBy q t s (start_stage low o) 4 n tp m out at m out₁ }
-  payload_all p out₁ q y is e =
-      let none = y.none is in record {
-        steady = subst⁻¹ (λ (x : Passed). Steady x at) e (record { ten = y.ten; at = y.at; left = omega arith; sort = sort });
-        leaves_by = λ b k d own z.
-            subst⁻¹ (λ (x : Passed). LeftAs x t b k (in_lane b k (lane_in t) (start_stage low o) 4) n tp m out at m out₁) e
-            (record { all = λ f. (refl, none.0, none.1, refl); done = λ f. absurd (omega (arith, f)); on = λ f. absurd (omega (arith, f)); kempt = z });
-      }
-
   module _ (p : Parted) (out₁ : List ℕ) (is : low ≡ true) (y : PartSteady p tp out out₁ at) (parted : PartedBy p n tp out at out₁) where
-    -- what follows a place in the low-latency part, or behind it
-    pub payload_part : (q : Passed) (left : ℕ) → (x : Bool) → p.within ≡ x → stage_by left o ≡ start_stage x o → 1 < left → left ≤ 4 → at < p.at
-        → q ≡ record { left = left; offset = o; place = p.place; track = t; ten = p.ten; at = p.at }
+    abbrev r : Receiver → ℕ → Receiver
+    r b k = in_lane b k (lane_in t) (Low o) 4
+
+    abbrev left_part : Passed
+    left_part = record { left = part_left p o; track = t; held = record { ten = p.held.ten; at = p.held.at } }
+
+    on : (b : Receiver) (k : ℕ) → Lends b 4 tp m → Kempt b.limit t → (x : Bool) → p.within ≡ x → OnBy left_part (start_stage x o) p.place b k (r b k) n tp m out at m out₁
+    on b k d z x e =
+        let h = parted b k (lane_in t) o m d z.tidy small in
+        let there : in_lane b k (lane_in t) (start_stage x o) p.place ≡ in_lane b k (lane_in t) (start_stage p.within o) p.place =
+        ap (λ (g : Bool). in_lane b k (lane_in t) (start_stage g o) p.place) (sym e) in
+        record {
+          lines = h.lines;
+          hears = subst⁻¹ (λ (g : Receiver). Hears tp n (r b k) m h.lines g m) there h.hears;
+          held = h.held;
+          able = subst⁻¹ Able there h.able;
+        }
+
+    part_is : (b : Receiver) (k : ℕ) → Lends b 4 tp m → Kempt b.limit t → (x w : Bool) → p.within ≡ x → eqb p.place 4 ≡ w
+        → LeftBy (cond x (cond w All (From (Low o) p.place)) (From (Due o) p.place)) left_part t b k (r b k) n tp m out at m out₁
+    part_is b k d z true true ex ew = let none = y.none (eqb-true p.place 4 ew) in (refl, none.0, none.1, refl)
+    part_is b k d z true false ex ew = (on b k d z true ex, y.more (past_four p.place y.from (eqb-false p.place 4 ew)))
+    part_is b k d z false w ex ew = (on b k d z false ex, y.behind ex)
+
+    -- what follows a place in the low-latency part, or behind it; or all of it
+    pub payload_part : (q : Passed) (left : Left) → left ≡ part_left p o → q ≡ record { left = left; track = t; held = record { ten = p.held.ten; at = p.held.at } }
         → record { steady : Steady q at; leaves_by : LeavesBy q t s (start_stage low o) 4 n tp m out at m out₁ }
-    payload_part q left x within stage some few more e = record {
-      steady = subst⁻¹ (λ (z : Passed). Steady z at) e (record { ten = y.ten; at = y.at; left = few; sort = sort });
-      leaves_by = λ b k d own z.
-          let h = parted b k (lane_in t) o m d z.tidy small in
-          let there : in_lane b k (lane_in t) (stage_by left o) p.place ≡ in_lane b k (lane_in t) (start_stage p.within o) p.place =
-          ap (λ (g : Stage). in_lane b k (lane_in t) g p.place) (stage ∙ ap (λ (g : Bool). start_stage g o) (sym within)) in
-          subst⁻¹ (λ (g : Passed). LeftAs g t b k (in_lane b k (lane_in t) (start_stage low o) 4) n tp m out at m out₁) e
-          (subst⁻¹ (λ (g : Bool). LeftAs (record { left = left; offset = o; place = p.place; track = t; ten = p.ten; at = p.at }) t b k (in_lane b k (lane_in t) (start_stage g o) 4) n tp m out at m out₁) is
-          (record {
-            all = λ f. absurd (omega (arith, f, some));
-            done = λ f. absurd (omega (arith, f, some));
-            on =
-                λ f. (
-                  record {
-                    lines = h.lines;
-                    hears = subst⁻¹ (λ (g : Receiver). Hears tp n (in_lane b k (lane_in t) (Low o) 4) m h.lines g m) there h.hears;
-                    held = h.held;
-                    able = subst⁻¹ Able there h.able;
-                  },
-                  more,
-                );
-            kempt = z;
-          }));
-    }
+    payload_part q left el eq =
+        let e : q ≡ left_part = eq ∙ ap (λ (x : Left). record { left = x; track = t; held = record { ten = p.held.ten; at = p.held.at } }) el in record {
+          steady = subst⁻¹ (λ (z : Passed). Steady z at) e (record { ten = y.ten; at = y.at; sort = sort });
+          leaves_by = λ b k d own z.
+              subst⁻¹ (λ (x : Passed). LeftAs x t b k (in_lane b k (lane_in t) (start_stage low o) 4) n tp m out at m out₁) e
+              (subst⁻¹ (λ (g : Bool). LeftAs left_part t b k (in_lane b k (lane_in t) (start_stage g o) 4) n tp m out at m out₁) is
+              (record { left = part_is b k d z p.within (eqb p.place 4) refl refl; kempt = z }));
+        }
 
     -- the ordinary bytes behind it
-    pub payload_behind : (q : Passed) (left here held : ℕ) (out₂ m' out' : List ℕ) → p.within ≡ false → left ≡ 3 → here ≡ p.place → held ≡ p.at → out₂ ≡ out₁
-        → LeadsBy q t s left o here n tp m out₂ held m' out' → LeavesBy q t s (start_stage low o) 4 n tp m out at m' out'
-    payload_behind q left here held out₂ m' out' within el eh ea eo led b k d own z =
+    pub payload_behind : (q : Passed) (left : Left) (m' out' : List ℕ) → p.within ≡ false → left ≡ part_left p o
+        → LeadsBy q t s left o p.place n tp m out₁ p.held.at m' out' → LeavesBy q t s (start_stage low o) 4 n tp m out at m' out'
+    payload_behind q left m' out' within el led b k d own z =
         let h = parted b k (lane_in t) o m d z.tidy small in
-        let lent : Lends b here tp m = record { size = d.size; whole = d.whole; full = d.full; within = omega (arith, eh, y.within) } in
-        let there : in_lane b k (lane_in t) (start_stage p.within o) p.place ≡ in_lane b k (lane_in t) (Due o) here =
-        ap (λ (g : Bool). in_lane b k (lane_in t) (start_stage g o) p.place) within ∙ ap (λ (g : ℕ). in_lane b k (lane_in t) (Due o) g) (sym eh) in
+        let lent : Lends b p.place tp m = record { size = d.size; whole = d.whole; full = d.full; within = y.within } in
+        let there : in_lane b k (lane_in t) (start_stage p.within o) p.place ≡ in_lane b k (lane_in t) (Due o) p.place =
+        ap (λ (g : Bool). in_lane b k (lane_in t) (start_stage g o) p.place) within in
+        let due : left ≡ From (Due o) p.place = el ∙ ap (λ (g : Bool). cond g (cond (eqb p.place 4) All (From (Low o) p.place)) (From (Due o) p.place)) within in
         subst⁻¹ (λ (g : Bool). LeftAs q t b k (in_lane b k (lane_in t) (start_stage g o) 4) n tp m out at m' out') is
-        (left_behind q t o here b k (in_lane b k (lane_in t) (Low o) 4) (in_lane b k (lane_in t) (Due o) here) n tp m out at out₂ held h.lines m' out'
-        (subst (λ (g : Receiver). Hears tp n (in_lane b k (lane_in t) (Low o) 4) m h.lines g m) there h.hears)
+        (left_behind q t o p.place b k (r b k) (in_lane b k (lane_in t) (Due o) p.place) n tp m out at out₁ p.held.at h.lines m' out'
+        (subst (λ (g : Receiver). Hears tp n (r b k) m h.lines g m) there h.hears)
         refl
-        (ap (λ (g : List ℕ). take held g) eo ∙ ap (λ (g : ℕ). take g out₁) ea ∙ h.held)
+        h.held
         (subst Able there h.able)
-        (omega (arith, ea, y.behind within))
+        (y.behind within)
         z
-        (subst (λ (g : ℕ). LedTo false q t g o here b k (in_lane b k (lane_in t) (Due o) here) n tp m m out₂ held m' out') el (led b k lent own)))
+        (subst (λ (g : Left). LedTo false q t g b k (in_lane b k (lane_in t) (Due o) p.place) n tp m m out₁ p.held.at m' out') due (led b k lent own)))
 
   -- the ordinary bytes, with no low-latency part
-  pub payload_plain : (q : Passed) (left here held : ℕ) (out₂ m' out' : List ℕ) → low ≡ false → left ≡ 0 → here ≡ 4 → held ≡ at → out₂ ≡ out
-      → LeadsBy q t s left o here n tp m out₂ held m' out' → LeavesBy q t s (start_stage low o) 4 n tp m out at m' out'
-  payload_plain q left here held out₂ m' out' is el eh ea eo led b k d own z =
-      let by = subst (λ (g : ℕ). LeadsBy q t s g o here n tp m out₂ held m' out') el led in
-      let by₂ = subst (λ (g : ℕ). LeadsBy q t s 0 o g n tp m out₂ held m' out') eh by in
-      let by₃ = subst (λ (g : ℕ). LeadsBy q t s 0 o 4 n tp m out₂ g m' out') ea by₂ in
-      let by₄ = subst (λ (g : List ℕ). LeadsBy q t s 0 o 4 n tp m g at m' out') eo by₃ in
+  pub payload_plain : (q : Passed) (m' out' : List ℕ) → low ≡ false → LeadsBy q t s All o 4 n tp m out at m' out' → LeavesBy q t s (start_stage low o) 4 n tp m out at m' out'
+  payload_plain q m' out' is led b k d own z =
       subst⁻¹ (λ (g : Bool). LeftAs q t b k (in_lane b k (lane_in t) (start_stage g o) 4) n tp m out at m' out') is
-      (left_plain q t o b k (in_lane b k (lane_in t) (Due o) 4) n tp m out at m' out' z (by₄ b k d own))
+      (left_plain q t b k (in_lane b k (lane_in t) (Due o) 4) n tp m out at m' out' z (led b k d own))
 
 pub steady_from : (q : Passed) (at held : ℕ) → at ≤ held → Steady q held → Steady q at
-steady_from q at held h s = record { ten = s.ten; at = omega (arith, h, s.at); left = s.left; sort = s.sort }
+steady_from q at held h s = record { ten = s.ten; at = omega (arith, h, s.at); sort = s.sort }

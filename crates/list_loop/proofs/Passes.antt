@@ -3,15 +3,14 @@ use Prim.Native.Nat.{ℕ, ◌+◌, ◌≤◌, ◌<◌, min}
 use mathlib.Core.Path.{◌≡◌, refl, ap, sym, subst, subst⁻¹, ◌∙◌}
 use mathlib.Core.Bool.{Bool, true, false, cond}
 use mathlib.Core.Logic.{⊎_elim}
-use mathlib.Core.List.{List, [], ◌++◌, append-nil}
+use mathlib.Core.List.{List, [], append-nil}
 use native.Mathlib.Omega.{arith}
 use lib.Dec.{eqb}
 use lib.ListN.{length, take, length-take, length-append}
 use borrow.Author.Tests.{eq-eqb, eqb-true, lt-ltb}
 use Rattle.block.specs.Block.{Block, put}
-use Rattle.block.specs.Decimal.{decimal}
 use Rattle.listing.specs.Hearing.{nothing, then, Ends, last}
-use Rattle.listing.specs.Lines.{line_of, rest_of}
+use Rattle.listing.specs.Lines.{line_of}
 use Rattle.listing.specs.Tens.{Kept}
 use Rattle.listing.specs.declared.Ten.{Ten}
 use Rattle.receiver.specs.Call.{Gave, Gives, call_as, call_of, always, counted_of, first_call, lasts, stepped, unchanged}
@@ -30,10 +29,12 @@ use Rattle.receiver.specs.declared.entry.Top.TheVariants.{Elsewhere, Says}
 use Rattle.receiver.specs.declared.lane.Lane.{Lane}
 use Rattle.receiver.specs.declared.lane.Lane.TheVariants as L
 use Rattle.receiver.specs.declared.track.Track.{Track}
-use Rattle.listing.proofs.Laws.{line_held, line_of_lem, no_less}
+use Rattle.listing.proofs.Laws.{line_held, no_less}
 use Rattle.receiver.proofs.LaneFirst.{first_as, own_first, own_later, part_counts}
 use Rattle.receiver.proofs.TakingUp.{fresh_top, fresh_by, says_small}
-use Rattle.list_loop.specs.Lanes.{Holds, LeavesBy, LeftAs, PassesBy, Steady, start_stage}
+use Rattle.list_loop.specs.Lanes.{Holds, LeavesBy, LeftAs, LeftBy, PassesBy, Steady, start_stage}
+use Rattle.list_loop.specs.declared.lanes.Left.{Left}
+use Rattle.list_loop.specs.declared.lanes.Left.TheVariants.{All, Done, From}
 use Rattle.list_loop.specs.declared.lanes.Passed.{Passed}
 use Rattle.list_loop.proofs.Alike.{ends_from, hears_from}
 
@@ -111,16 +112,13 @@ module _ (b : Receiver) (k n : ℕ) (tp m : List ℕ) (full : length m ≡ b.lim
 
 -- the line of its notice
 pub told_put : (n x : ℕ) (out : List ℕ) (at : ℕ) (out' : List ℕ) (at' : ℕ) → at + 80 ≤ length out
-    → ◌≡◌ {A = Block} (record { bytes = out'; at = at' }) (put out at (decimal n ++ rest_of (F.Notice x))) → Holds out at (line_of n (F.Notice x)) out' at' × (at ≤ at')
-told_put n x out at out' at' room e =
-    let other : (F.Notice x ≡ F.Nothing → ⊥) = λ z. (let y : ◌≡◌ {A = ℕ} 0 1 = cc in omega (arith, y)) in
-    let is = e ∙ ap (put out at) (line_of_lem n (F.Notice x) other) in
-    (line_held n (F.Notice x) out out' at at' room is, no_less n (F.Notice x) out out' at at' room is)
+    → ◌≡◌ {A = Block} (record { bytes = out'; at = at' }) (put out at (line_of n (F.Notice x))) → Holds out at (line_of n (F.Notice x)) out' at' × (at ≤ at')
+told_put n x out at out' at' room is = (line_held n (F.Notice x) out out' at at' room is, no_less n (F.Notice x) out out' at at' room is)
 
 -- ---- what of a TP is left
 
-abbrev pub left_at : ℕ → Track → Ten → ℕ → Passed
-left_at left t ten at = record { left = left; offset = 0; place = 0; track = t; ten = ten; at = at }
+abbrev pub left_at : Left → Track → Ten → ℕ → Passed
+left_at left t ten at = record { left = left; track = t; held = record { ten = ten; at = at } }
 
 -- lines that were put behind what was held
 some_lines : (a a' : ℕ) (out out' ls : List ℕ) → Holds out a ls out' a' → a < a' → a < length out → length out' ≡ length out → ls ≡ [] → ⊥
@@ -134,16 +132,16 @@ module _ (t : Track) (b : Receiver) (k n : ℕ) (tp m out : List ℕ) (at : ℕ)
   abbrev fresh : Receiver
   fresh = in_lane b k (lane_in t) Fresh 0
 
-  all_left : (ten : Ten) → LeftAs (left_at 0 t ten at) t b (count_of k) fresh n tp m out at m out
-  all_left ten = record { all = λ e. (refl, refl, refl, refl); done = λ e. absurd (omega (arith, e)); on = λ e. absurd (omega (arith, e)); kempt = kempt }
+  all_left : (ten : Ten) → LeftAs (left_at All t ten at) t b (count_of k) fresh n tp m out at m out
+  all_left ten = record { left = (refl, refl, refl, refl); kempt = kempt }
 
   done_left : (ten : Ten) (out' : List ℕ) (at' : ℕ) (ls : List ℕ) → Ends tp n fresh m ls (in_lane b (count_of k) (lane_in t) Fresh 0) m → Holds out at ls out' at'
-      → LeftAs (left_at 1 t ten at') t b (count_of k) fresh n tp m out at m out'
+      → LeftAs (left_at Done t ten at') t b (count_of k) fresh n tp m out at m out'
   done_left ten out' at' ls ends held =
-      record { all = λ e. absurd (omega (arith, e)); done = λ e. record { lines = ls; ends = ends; held = held }; on = λ e. absurd (omega (arith, e)); kempt = kempt }
+      record { left = record { lines = ls; ends = ends; held = held }; kempt = kempt }
 
   -- passed over: no line
-  over_left : (ten : Ten) (l : Lane) → lane_in t ≡ l → PassesOver l b tp → LeftAs (left_at 1 t ten at) t b (count_of k) fresh n tp m out at m out
+  over_left : (ten : Ten) (l : Lane) → lane_in t ≡ l → PassesOver l b tp → LeftAs (left_at Done t ten at) t b (count_of k) fresh n tp m out at m out
   over_left ten l is p =
       let q = ends_in (in_lane b (count_of k) l Fresh 0) (own_of (count_of k)) in
       let other : (i : ℕ) → q.find ≡ F.Notice i → i < 9 → ⊥ = λ i e s. (let z : ◌≡◌ {A = ℕ} 0 1 = cc in omega (arith, z)) in
@@ -153,7 +151,7 @@ module _ (t : Track) (b : Receiver) (k n : ℕ) (tp m out : List ℕ) (at : ℕ)
 
   -- dropped with a notice
   told_left : (ten : Ten) (x : ℕ) (out' : List ℕ) (at' : ℕ) → lane_in t ≡ L.Lost → DropsWith x b tp → Holds out at (line_of n (F.Notice x)) out' at'
-      → LeftAs (left_at 1 t ten at') t b (count_of k) fresh n tp m out at m out'
+      → LeftAs (left_at Done t ten at') t b (count_of k) fresh n tp m out at m out'
   told_left ten x out' at' is d held =
       done_left ten out' at' (line_of n (F.Notice x))
       (subst⁻¹ (λ (l : Lane). Ends tp n (in_lane b k l Fresh 0) m (line_of n (F.Notice x)) (in_lane b (count_of k) l Fresh 0) m) is (dropped_ends b k n tp m full x d)) held
@@ -174,30 +172,31 @@ module _ (t : Track) (b : Receiver) (k n : ℕ) (tp m out : List ℕ) (at : ℕ)
         let w = (says b tp low o e).0 in
         let lent : Lends b 4 tp m = record { size = able.size; whole = w; full = full; within = omega (arith, w, able.size) } in
         let h = v b (count_of k) lent own kempt in
-        record {
-          all = h.all;
-          done = λ z. (let d = h.done z in record { lines = d.lines; ends = ends_from first_alike d.ends; held = d.held });
-          on = λ z. (let d = h.on z in (record { lines = d.0.lines; hears = hears_from first_alike d.0.hears (some_lines at q.at out out' d.0.lines d.0.held d.1 inside same); held = d.0.held; able = d.0.able }, d.1));
-          kempt = h.kempt;
-        }
+        record { left = by q.left h.left; kempt = h.kempt }
+      where
+        by : (l : Left) → LeftBy l q t b (count_of k) (in_lane b (count_of k) (lane_in t) (start_stage low o) 4) n tp m out at m' out' → LeftBy l q t b (count_of k) fresh n tp m out at m' out'
+        by All h = h
+        by Done h = record { lines = h.lines; ends = ends_from first_alike h.ends; held = h.held }
+        by (From g i) h =
+            let d = h.0 in
+            (record { lines = d.lines; hears = hears_from first_alike d.hears (some_lines at q.held.at out out' d.lines d.held h.1 inside same); held = d.held; able = d.able }, h.1)
 
-pub steady_left : (q : Passed) (left : ℕ) (t : Track) (ten : Ten) (at at' : ℕ) → q ≡ left_at left t ten at' → Kept ten → at ≤ at' → left ≤ 4 → t.sort ≤ 3 → Steady q at
-steady_left q left t ten at at' is kept more small sort =
-    subst⁻¹ (λ (x : Passed). Steady x at) is (record { ten = kept; at = more; left = small; sort = sort })
+pub steady_left : (q : Passed) (left : Left) (t : Track) (ten : Ten) (at at' : ℕ) → q ≡ left_at left t ten at' → Kept ten → at ≤ at' → t.sort ≤ 3 → Steady q at
+steady_left q left t ten at at' is kept more sort = subst⁻¹ (λ (x : Passed). Steady x at) is (record { ten = kept; at = more; sort = sort })
 
 module _ (q : Passed) (t : Track) (b : Receiver) (s : Stamp) (n : ℕ) (tp m out : List ℕ) (at : ℕ) where
   passes : (z : Passed) (m' out' : List ℕ) → q ≡ z → PassesBy z t b s n tp m out at m' out' → PassesBy q t b s n tp m out at m' out'
   passes z m' out' is h = subst⁻¹ (λ (x : Passed). PassesBy x t b s n tp m out at m' out') is h
 
-  pub passes_all : (ten : Ten) → q ≡ left_at 0 t ten at → PassesBy q t b s n tp m out at m out
-  passes_all ten is = passes (left_at 0 t ten at) m out is (λ k own y f. all_left t b k n tp m out at f y ten)
+  pub passes_all : (ten : Ten) → q ≡ left_at All t ten at → PassesBy q t b s n tp m out at m out
+  passes_all ten is = passes (left_at All t ten at) m out is (λ k own y f. all_left t b k n tp m out at f y ten)
 
-  pub passes_over : (ten : Ten) (l : Lane) → q ≡ left_at 1 t ten at → lane_in t ≡ l → PassesOver l b tp → PassesBy q t b s n tp m out at m out
-  passes_over ten l is same p = passes (left_at 1 t ten at) m out is (λ k own y f. over_left t b k n tp m out at f y ten l same p)
+  pub passes_over : (ten : Ten) (l : Lane) → q ≡ left_at Done t ten at → lane_in t ≡ l → PassesOver l b tp → PassesBy q t b s n tp m out at m out
+  passes_over ten l is same p = passes (left_at Done t ten at) m out is (λ k own y f. over_left t b k n tp m out at f y ten l same p)
 
-  pub passes_told : (ten : Ten) (x : ℕ) (out' : List ℕ) (at' : ℕ) → q ≡ left_at 1 t ten at' → lane_in t ≡ L.Lost → DropsWith x b tp → Holds out at (line_of n (F.Notice x)) out' at'
+  pub passes_told : (ten : Ten) (x : ℕ) (out' : List ℕ) (at' : ℕ) → q ≡ left_at Done t ten at' → lane_in t ≡ L.Lost → DropsWith x b tp → Holds out at (line_of n (F.Notice x)) out' at'
       → PassesBy q t b s n tp m out at m out'
-  passes_told ten x out' at' is same d held = passes (left_at 1 t ten at') m out' is (λ k own y f. told_left t b k n tp m out at f y ten x out' at' same d held)
+  passes_told ten x out' at' is same d held = passes (left_at Done t ten at') m out' is (λ k own y f. told_left t b k n tp m out at f y ten x out' at' same d held)
 
   pub passes_says : (low : Bool) (o : ℕ) (m' out' : List ℕ) → Able b → top_in b tp ≡ Says low o → at < length out → length out' ≡ length out
       → LeavesBy q t s (start_stage low o) 4 n tp m out at m' out' → PassesBy q t b s n tp m out at m' out'

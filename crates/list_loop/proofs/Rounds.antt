@@ -1,63 +1,53 @@
--- FROM ROUND TO ROUND of the loop over input blocks: what `console::go_on` promises is what the theorem on the whole listing asks for.
--- Assumes nothing.
-use Prim.Native.Nat.{ℕ, ◌-◌, ◌≤◌}
+-- FROM ROUND TO ROUND of the loop over input blocks: what is held behind the records taken is, once it is written, what the theorem on the
+-- whole listing asks for before the next ones. Assumes nothing.
+use Prim.Native.Nat.{ℕ}
 use mathlib.Core.Path.{◌≡◌, refl, ap, sym, subst, ◌∙◌}
 use mathlib.Core.List.{List, ◌++◌}
+use lib.ListN.{length, drop}
+use Rattle.console.specs.Taking.{Whole}
+use Rattle.console.proofs.Records.{none_taken, rest_is, data_long, one_more}
+use Rattle.house.specs.declared.Place.TheVariants as P
 use native.Mathlib.Omega.{arith}
-use lib.ListN.{length, take, drop, take-append-drop}
-use Rattle.console.specs.Taking.{till_in, from_in, stretch, Onward}
-use Rattle.console.specs.declared.Unread.{Unread}
-use Rattle.house.specs.Series.{unread_in}
+use Rattle.list_loop.specs.Running.{Standing, Lists, nothing, hears, ends, gap, Listed}
+use Rattle.list_loop.specs.Rounds.{Comes, begins, goes, Went}
+use Rattle.list_loop.specs.Whole.{Goes, first, next}
 use Rattle.receiver.specs.Tp.{Setting}
-use Rattle.list_loop.specs.Running.{Listed}
-use Rattle.list_loop.specs.Whole.{Begins, Goes, first, next}
 use Rattle.list_loop.specs.declared.Run.{Run}
 
--- a stretch within its block
-stretch_is : (d : List ℕ) (u : Unread) → u.from ≤ u.till → u.till ≤ length d → stretch d u ≡ unread_in d u.from u.till
-stretch_is d u f t =
-    let till : till_in (length d) u ≡ u.till = omega arith in
-    let from : from_in (length d) u ≡ u.from = omega arith in
-    ap (λ (n : ℕ). take (n - from_in (length d) u) (drop (from_in (length d) u) d)) till ∙ ap (λ (n : ℕ). take (u.till - n) (drop n d)) from
+-- at the start of a stretch
+abbrev pub at_start : Run → Run
+at_start r = record { receiver = r.receiver; done = r.done; ten = r.ten; at = r.at; from = 0 }
 
--- what is unread is there again, and perhaps more behind it
-abbrev behind : List ℕ → Unread → List ℕ → Unread → List ℕ
-behind d u b v = drop (length (unread_in d u.from u.till)) (unread_in b v.from v.till)
+went_as : {s : Setting} {input t held : List ℕ} {r : Run} {m u : List ℕ} → Goes s input t held r m → t ≡ u → Went u r m
+went_as {s} {input} {held = held} {r = r} {m = m} g e =
+    record { setting = s; input = input; held = held; goes_so = subst (λ (z : List ℕ). Goes s input z held r m) e g }
 
-read_on_lem : (d : List ℕ) (u : Unread) (b : List ℕ) (v : Unread) → Onward d u b v → u.from ≤ u.till → u.till ≤ length d
-    → unread_in b v.from v.till ≡ unread_in d u.from u.till ++ behind d u b v
-read_on_lem d u b v o f t =
-    let old = stretch_is d u f t in
-    let new = stretch_is b v o.from o.end in
-    let x = unread_in b v.from v.till in
-    let n = length (unread_in d u.from u.till) in
-    let kept : take n x ≡ unread_in d u.from u.till =
-    ap (λ (z : List ℕ). take (length z) x) (sym old) ∙ ap (take (length (stretch d u))) (sym new) ∙ o.kept ∙ old in
-    sym (take-append-drop n x) ∙ ap (λ (z : List ℕ). z ++ drop n x) kept
+pub went : {u : List ℕ} {run : Run} {m out : List ℕ} {r : Run} {m' out' : List ℕ} → Comes u run m out
+    → Listed (length u) u (at_start run) m out r m' out' → Went (drop r.from u) r m'
+went {u} {r = r} (begins b) l =
+    went_as (first (record { receiver = b.receiver; able = b.able; room = b.room; done = b.done; held = b.held }) l) (rest_is u r.from)
+went {u} {m = m} {out = out} {r = r} {m' = m'} {out' = out'} (goes g more e is) l =
+    went_as (next g more (rest_is u 0 ∙ e) (subst (λ (x : Run). Listed (length u) u x m out r m' out') (ap at_start is) l)) (rest_is u r.from)
 
--- before the records of a block: the loop begins, or goes on behind another block
-pub data Comes (s : Setting) (till : ℕ) (block : List ℕ) (run : Run) (m out : List ℕ) : Type 0 where
-  begins : Begins s run m out → Comes s till block run m out
-  goes : {input unread held : List ℕ} {b : Run} → Goes s input unread held b m → (more : List ℕ) → unread_in block run.from till ≡ unread ++ more
-      → run ≡ record { receiver = b.receiver; done = b.done; ten = b.ten; at = 0; from = run.from } → Comes s till block run m out
+-- emptied, it goes on with what was read behind
+pub comes : (run : Run) (m out rest more : List ℕ) → Went rest run m
+    → Comes (rest ++ more) (record { receiver = run.receiver; done = run.done; ten = run.ten; at = 0; from = run.from }) m out
+comes run m out rest more w = goes w.goes_so more refl refl
 
--- behind them
-record Went (s : Setting) (unread : List ℕ) (r : Run) (m : List ℕ) : Type 0 where
-  input : List ℕ
-  held : List ℕ
-  goes_so : Goes s input unread held r m
+-- ---- what the lines are of are whole records
 
-went : {s : Setting} {till : ℕ} {block : List ℕ} {run : Run} {m out : List ℕ} {r : Run} {m' out' : List ℕ} → Comes s till block run m out → Listed till block run m out r m' out'
-    → Went s (unread_in block r.from till) r m'
-went (begins b) l = record { input = _; held = _; goes_so = first b l }
-went {till = till} {block = block} {m = m} {out = out} {r = r} {m' = m'} {out' = out'} (goes g more e is) l =
-    record { input = _; held = _; goes_so = next g more e (subst (λ (x : Run). Listed till block x m out r m' out') is l) }
+whole_of : {u : List ℕ} {a : Standing} {ls : List ℕ} {b : Standing} → a.from ≡ 0 → Lists u (length u) a ls b → Whole P.Listing u b.from
+whole_of {u} z nothing = subst (Whole P.Listing u) (sym z) (none_taken P.Listing u)
+whole_of z (hears l whole h) = whole_of z l
+whole_of {u} z (ends {b = b} {n = n} l whole e) =
+    let w = whole_of z l in
+    let long = data_long w refl whole refl refl in
+    subst (Whole P.Listing u) (omega (arith, long)) (one_more w refl whole refl refl)
+whole_of {u} z (gap {b = b} l whole) =
+    let w = whole_of z l in
+    let long = data_long w refl whole refl refl in
+    subst (Whole P.Listing u) (omega (arith, long)) (one_more w refl whole refl refl)
 
--- A ROUND
-pub round : {s : Setting} {till : ℕ} {block : List ℕ} {run : Run} {m out : List ℕ} {r : Run} {m' out' : List ℕ} {gone : ℕ} {block' : List ℕ} {v : Unread}
-    → Comes s till block run m out → Listed till block run m out r m' out' → r.from ≤ till → till ≤ length block
-    → Onward block (record { gone = gone; from = r.from; till = till }) block' v
-    → Comes s v.till block' (record { receiver = r.receiver; done = r.done; ten = r.ten; at = 0; from = v.from }) m' out'
-round {till = till} {block = block} {r = r} {gone = gone} {block' = block'} {v = v} c l f t o =
-    let u : Unread = record { gone = gone; from = r.from; till = till } in
-    goes (went c l).goes_so (behind block u block' v) (read_on_lem block u block' v o f t) refl
+pub listed_whole : {u : List ℕ} {first : Run} {m out : List ℕ} {r : Run} {m' out' : List ℕ} → first.from ≡ 0 → Listed (length u) u first m out r m' out'
+    → Whole P.Listing u r.from
+listed_whole z l = whole_of z l.taken

@@ -11,7 +11,7 @@ use Rattle.house.specs.Records.{length_of}
 use Rattle.house.specs.Series.{unread_in, Item, Taken}
 use Rattle.house.specs.Series as T
 use Rattle.house.specs.Slices.{at_hand, data_in}
-use Rattle.house.specs.declared.AtHand.TheVariants.{Whole}
+use Rattle.std.specs.Prelude.{Some, Ok}
 use Rattle.house.specs.declared.Place.TheVariants.{Listing}
 use Rattle.house.specs.declared.Record.{Record}
 use Rattle.house.specs.declared.Record.TheVariants.{Packet, Gap}
@@ -31,7 +31,7 @@ use Rattle.list_loop.proofs.Between.{Between, begun, held_is, gap_told_lem, tp_b
 
 record Amid (s : Setting) (xs : List Input) (unread held : List ℕ) (r : Receiver) (done : ℕ) (m : List ℕ) : Type 0 where
   size : ℕ
-  tp_at_hand : at_hand Listing unread ≡ Whole (Packet size)
+  tp_at_hand : at_hand Listing unread ≡ Ok (Some (Packet size))
   start : List ℕ
   receiver : Receiver
   room : List ℕ
@@ -52,13 +52,13 @@ inputs_more (y ∷ ys) x = ap (λ (zs : List Input). input_in y.said y.bytes ∷
 -- ---- one record, or a part of its calls
 
 module _ (s : Setting) (xs : List Input) (unread held : List ℕ) (r : Receiver) (done : ℕ) (m : List ℕ) (n : ℕ)
-    (whole : at_hand Listing unread ≡ Whole (Packet n)) where
+    (whole : at_hand Listing unread ≡ Ok (Some (Packet n))) where
   abbrev tp : List ℕ
   tp = data_in (Packet n) unread
 
-  same_tp : (k : ℕ) → at_hand Listing unread ≡ Whole (Packet k) → data_in (Packet k) unread ≡ tp
+  same_tp : (k : ℕ) → at_hand Listing unread ≡ Ok (Some (Packet k)) → data_in (Packet k) unread ≡ tp
   same_tp k tp_at_hand =
-      let both : Whole (Packet k) ≡ Whole (Packet n) = sym tp_at_hand ∙ whole in
+      let both : Ok (Some (Packet k)) ≡ Ok (Some (Packet n)) = sym tp_at_hand ∙ whole in
       let e : k ≡ n = cc in
       ap (λ (z : ℕ). data_in (Packet z) unread) e
 
@@ -91,17 +91,17 @@ module _ (s : Setting) (xs : List Input) (unread held : List ℕ) (r : Receiver)
         (tp_done s xs a.start a.receiver done a.room a.between tp (ends_on (heard_so a) e))
 
 -- a gap's record comes between two TPs
-go_told : (s : Setting) (xs : List Input) (unread held : List ℕ) (r : Receiver) (done : ℕ) (m : List ℕ) → at_hand Listing unread ≡ Whole Gap
+go_told : (s : Setting) (xs : List Input) (unread held : List ℕ) (r : Receiver) (done : ℕ) (m : List ℕ) → at_hand Listing unread ≡ Ok (Some Gap)
     → Between s xs held r done m ⊎ Amid s xs unread held r done m → Between s xs held r done m
 go_told s xs unread held r done m whole (inl b) = b
-go_told s xs unread held r done m whole (inr a) = let other : Whole (Packet a.size) ≡ Whole Gap = sym a.tp_at_hand ∙ whole in let z : ◌≡◌ {A = ℕ} 0 1 = cc in absurd (omega arith)
+go_told s xs unread held r done m whole (inr a) = let other : Ok (Some (Packet a.size)) ≡ Ok (Some Gap) = sym a.tp_at_hand ∙ whole in let z : ◌≡◌ {A = ℕ} 0 1 = cc in absurd (omega arith)
 
 -- ---- the records of a block
 
 module _ (s : Setting) (input held : List ℕ) (block : List ℕ) (till : ℕ) (a : Standing)
     (start : Stands s input (unread_in block a.from till) held a.receiver a.done a.room) where
   -- a record more
-  record_on : (xs : List Item) (from n : ℕ) (said : Record) → Taken Listing input xs (unread_in block from till) → at_hand Listing (unread_in block from till) ≡ Whole said
+  record_on : (xs : List Item) (from n : ℕ) (said : Record) → Taken Listing input xs (unread_in block from till) → at_hand Listing (unread_in block from till) ≡ Ok (Some said)
       → length_of said ≡ n → Taken Listing input (xs ++ record { said = said; bytes = data_in said (unread_in block from till) } ∷ []) (unread_in block (from + 8 + n) till)
   record_on xs from n said t whole e =
       let u = unread_in block from till in

@@ -1,3 +1,4 @@
 pub mod Running
 pub mod Lanes
 pub mod Whole
+pub mod Rounds

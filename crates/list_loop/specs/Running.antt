@@ -4,7 +4,7 @@
 use Rattle.std.specs.Prelude.{ℕ, ◌+◌, ◌≤◌, ◌<◌, ◌≡◌, ◌⊎◌, List, [], ◌++◌, length, take}
 use Rattle.house.specs.Series.{unread_in}
 use Rattle.house.specs.Slices.{at_hand, data_in}
-use Rattle.house.specs.declared.AtHand.TheVariants.{Whole}
+use Rattle.std.specs.Prelude.{Some, Ok}
 use Rattle.house.specs.declared.Place.TheVariants.{Listing}
 use Rattle.house.specs.declared.Record.{Record}
 use Rattle.house.specs.declared.Record.TheVariants.{Setup, Ordinary, Low, Draw, Packet, Gap}
@@ -118,14 +118,14 @@ standing r m = record { from = r.from; done = r.done; receiver = r.receiver; roo
 pub data Lists (block : List ℕ) (till : ℕ) (a : Standing) : List ℕ → Standing → Type 0 where
   nothing : Lists block till a [] a
   hears : {ls ms : List ℕ} {b : Standing} {n : ℕ} {r : Receiver} {m : List ℕ} → Lists block till a ls b
-      → at_hand Listing (unread_in block b.from till) ≡ Whole (Packet n)
+      → at_hand Listing (unread_in block b.from till) ≡ Ok (Some (Packet n))
       → Hears (data_in (Packet n) (unread_in block b.from till)) (b.done + 1) b.receiver b.room ms r m
       → Lists block till a (ls ++ ms) (record { from = b.from; done = b.done; receiver = r; room = m })
   ends : {ls ms : List ℕ} {b : Standing} {n : ℕ} {r : Receiver} {m : List ℕ} → Lists block till a ls b
-      → at_hand Listing (unread_in block b.from till) ≡ Whole (Packet n)
+      → at_hand Listing (unread_in block b.from till) ≡ Ok (Some (Packet n))
       → Ends (data_in (Packet n) (unread_in block b.from till)) (b.done + 1) b.receiver b.room ms r m
       → Lists block till a (ls ++ ms) (record { from = b.from + 8 + n; done = b.done + 1; receiver = r; room = m })
-  gap : {ls : List ℕ} {b : Standing} → Lists block till a ls b → at_hand Listing (unread_in block b.from till) ≡ Whole Gap
+  gap : {ls : List ℕ} {b : Standing} → Lists block till a ls b → at_hand Listing (unread_in block b.from till) ≡ Ok (Some Gap)
       → Lists block till a ls (record { from = b.from + 8; done = b.done; receiver = gap_of b.receiver; room = b.room })
 
 -- WHAT IS HELD: behind what the output block held stand the lines of the records that were taken from the input block

@@ -3,7 +3,7 @@
 use Rattle.std.specs.Prelude.{ℕ, ◌≡◌, ◌⊎◌, List, [], ◌∷◌, ◌++◌, length, take}
 use Rattle.house.specs.Series.{unread_in, Item, Taken}
 use Rattle.house.specs.Slices.{at_hand, data_in}
-use Rattle.house.specs.declared.AtHand.TheVariants.{Whole}
+use Rattle.std.specs.Prelude.{Some, Ok}
 use Rattle.house.specs.declared.Place.TheVariants.{Listing}
 use Rattle.house.specs.declared.Record.{Record}
 use Rattle.house.specs.declared.Record.TheVariants.{Setup, Ordinary, Low, Draw, Packet, Gap}
@@ -55,7 +55,7 @@ pub data Goes (s : Setting) : List ℕ → List ℕ → List ℕ → Run → Lis
 -- where the output block is full within a TP: its first lines are held, and the others are still to come
 pub record Within (s : Setting) (records : List Item) (unread held : List ℕ) : Type 0 where
   pub size : ℕ
-  pub tp_at_hand : at_hand Listing unread ≡ Whole (Packet size)
+  pub tp_at_hand : at_hand Listing unread ≡ Ok (Some (Packet size))
   pub first : List ℕ
   pub others : List ℕ
   pub begun : held ≡ listed s (inputs_in records) ++ first

@@ -2,17 +2,17 @@
 // programs').
 #![tactic(auto)]
 
-ghost use Rattle.std.specs.Prelude.{◌≡◌, ◌≤◌, length};
-ghost use Rattle.golay.specs.Book.{Book};
+ghost use Rattle.std.specs.Prelude.{◌≡◌, ◌≤◌, length, IfSome};
 ghost use Rattle.list_loop.specs.Running.{Fit, Onward, Ready, Ahead, Found, Does, Listed};
-ghost use Rattle.list_loop.specs.Whole.{Begins, setting_of};
+ghost use Rattle.list_loop.specs.Rounds.{Before, Behind, Opened};
+ghost use Rattle.house.specs.declared.Place.TheVariants as P;
 
 mod lanes;
 
-use console::{BLOCKS, FULL, More, Start, Unread};
-use house::{AtHand, Fault, Place, Record, Setup};
+use console::{Console, FULL, Program, SIZE, Taken};
+use house::{Fault, Place, Record, Setup};
 use listing::Ten;
-use receiver::{Opened, Receiver, over};
+use receiver::{Receiver, over};
 
 // Between two finds: the receiver, how many TPs are done, how much of the output block is held, where in the input block the
 // record begins.
@@ -100,24 +100,17 @@ fn turn(run: Run, said: Record, data: &[u8], room: &mut [u8], out: &mut [u8]) ->
 }
 
 // Takes the whole records of the input block, while the output block has room: TPs by tracks, and by calls what those leave.
-fn turns(
-    book: &[u16; 8192],
-    first: Run,
-    till: usize,
-    block: &[u8],
-    room: &mut [u8],
-    out: &mut [u8],
-) -> Run
-    requires { Ready first till (length block.now) (length out.old) × Book book.now }
+fn turns(first: Run, till: usize, block: &[u8], room: &mut [u8], out: &mut [u8]) -> Run
+    requires { Ready first till (length block.now) (length out.old) }
     ensures ahead { Ahead first till result }
     ensures listed { Listed till block.now first room.old out.old result room.new out.new }
 {
     let mut run = first;
     while run.at < FULL {
-        run = lanes::pass_all(book, run, till, block, room, out);
+        run = lanes::pass_all(run, till, block, room, out);
         let from = run.from;
         let unread = &block[from..till];
-        let AtHand::Whole(said) = house::read_record(Place::Listing, unread) else {
+        let Ok(Some(said)) = house::read_record(Place::Listing, unread) else {
             return run;
         };
         // Tracks may have filled the output block.
@@ -129,83 +122,80 @@ fn turns(
     run
 }
 
-// Takes block after block.
-fn blocks(
-    rt: &HostRuntime,
-    book: &[u16; 8192],
-    first: Run,
-    input: Unread,
-    block: &mut [u8],
-    room: &mut [u8],
-    out: &mut [u8],
-)
-    requires ready { Ready first input.till (length block.old) (length out.old) }
-    requires begins { Begins (setting_of first.receiver) first room.old out.old × Book book.now }
-{
-    let mut run = first;
-    let mut gone = input.gone;
-    let mut till = input.till;
-    let mut left = BLOCKS;
-    while 0 < left {
-        run = turns(book, run, till, block, room, out);
-        let from = run.from;
-        let unread = Unread { gone, from, till };
-        let More::Read(next) = console::go_on(
-            rt,
-            b"c7list",
-            Place::Listing,
-            block,
-            unread,
+// The program between two blocks: where it stands, the receiver's room, and the output block.
+#[derive(Drop)]
+struct Lister {
+    run: Run,
+    room: [u8; 32768],
+    out: [u8; 65536],
+}
+
+impl Lister {
+    // With a receiver of these settings, and the header line held.
+    fn open(setup: Setup) -> Option<Lister>
+        ensures { IfSome result (λ p. Opened p) }
+    {
+        let room = [0; 32768];
+        let receiver = receiver::open(setup.tp, setup.stream, &room)?;
+        let mut out = [0; 65536];
+        let at = listing::header(&mut out, 0);
+        Some(Lister {
+            run: Run {
+                receiver,
+                done: 0,
+                ten: listing::first_ten(),
+                at,
+                from: 0,
+            },
+            room,
             out,
-            run.at,
-        ) else {
-            return;
-        };
-        let receiver = run.receiver;
-        let done = run.done;
-        let ten = run.ten;
-        run = Run {
-            receiver,
-            done,
-            ten,
-            at: 0,
-            from: next.from,
-        };
-        gone = next.gone;
-        till = next.till;
-        left -= 1;
+        })
     }
 }
 
-fn list(rt: &HostRuntime, setup: Setup, unread: Unread, block: &mut [u8])
-    requires { (length block.old ≤ 131072) × ((unread.from ≤ unread.till) × (unread.till ≤ length block.old)) }
-{
-    let mut room = [0u8; 32768];
-    let Opened::Ready(receiver) = receiver::open(setup.tp, setup.stream, &room) else {
-        console::stop(rt, b"c7list", 0, Fault::Limits);
-        return;
-    };
-    // The code's tables, filled once: a word is then read by one load.
-    let mut book = [0u16; 8192];
-    golay::book::fill(&mut book);
-    let mut out = [0u8; 65536];
-    let at = listing::header(&mut out, 0);
-    let from = unread.from;
-    let run = Run {
-        receiver,
-        done: 0,
-        ten: listing::first_ten(),
-        at,
-        from,
-    };
-    blocks(rt, &book, run, unread, block, &mut room, &mut out);
+impl Program for Lister {
+    const PLACE: Place = Place::Listing;
+
+    ghost PLACE = { P.Listing };
+
+    ghost Before = { Before };
+
+    ghost Behind = { Behind };
+
+    fn take(&mut self, unread: &[u8]) -> Taken {
+        let first = Run {
+            from: 0,
+            ..self.run
+        };
+        self.run = turns(first, unread.len(), unread, &mut self.room, &mut self.out);
+        Taken {
+            bytes: self.run.from,
+            refused: None,
+        }
+    }
+
+    fn held(&self) -> &[u8] {
+        &self.out[..self.run.at.min(self.out.len())]
+    }
+
+    fn empty(&mut self) {
+        self.run.at = 0;
+    }
 }
 
 // From standard input to standard output.
 pub fn from_input(rt: &HostRuntime) {
-    let mut block = [0u8; 131072];
-    let Start::Ready(setup, unread) = console::first(rt, b"c7list", &mut block) else {
+    let console = Console {
+        rt,
+        program: "c7list",
+    };
+    let mut block = [0; SIZE];
+    let Some(start) = console.first(&mut block) else {
         return;
     };
-    list(rt, setup, unread, &mut block);
+    let Some(mut lister) = Lister::open(start.setup) else {
+        console.stop(0, Fault::Limits);
+        return;
+    };
+    console.run(&mut lister, start.unread, &mut block);
 }

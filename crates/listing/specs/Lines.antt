@@ -1,6 +1,5 @@
 -- The listing (document 01, 'Listing'): a header line, then a line for each find. Assumes nothing.
-use Rattle.std.specs.Prelude.{ℕ, List, [], ◌∷◌, ◌++◌}
-use Rattle.std.proofs.Math.Option.{Option, none, some}
+use Rattle.std.specs.Prelude.{ℕ, Option, None, Some, List, [], ◌∷◌, ◌++◌}
 use Rattle.block.specs.Decimal.{decimal}
 use Rattle.receiver.specs.Call.{find_number}
 use Rattle.receiver.specs.declared.Find.{Find}
@@ -28,8 +27,8 @@ line_with tp word c n = decimal tp ++ word ++ decimal c ++ (0x20 ∷ []) ++ deci
 
 -- "notice number", which document 01 gives an answer, "(0 for a notice)"
 abbrev pub notice_line : ℕ → Option ℕ → List ℕ
-notice_line tp none = []
-notice_line tp (some k) = line_with tp notice_word k 0
+notice_line tp None = []
+notice_line tp (Some k) = line_with tp notice_word k 0
 
 -- "(low, ordinary, notice)"; nothing has no line
 abbrev pub line_of : ℕ → Find → List ℕ

@@ -7,8 +7,7 @@ ghost use Rattle.block.specs.Block.{put};
 ghost use Rattle.block.specs.Decimal.{decimal};
 ghost use Rattle.receiver.specs.State.{Able};
 ghost use Rattle.receiver.specs.Call.{call_of, Gives};
-ghost use Rattle.receiver.specs.declared.Find.TheVariants.{Notice, Low, Ordinary};
-ghost use Rattle.listing.specs.Lines.{header_line, low_word, ordinary_word, notice_word, line_of, behind, rest_of};
+ghost use Rattle.listing.specs.Lines.{header_line, line_of, behind, rest_of};
 ghost use Rattle.listing.specs.Tens.{Kept};
 
 use receiver::{Find, Receiver, Step};
@@ -53,7 +52,7 @@ fn piece(out: &mut [u8], at: usize, s: &[u8]) -> usize
     ensures { record { bytes = out.new; at = result } ≡ put out.old at s.now }
 {
     let end = at + s.len();
-    queue::copy_at(&mut out[at..end], 0, s);
+    out[at..end].copy_from_slice(s);
     end
 }
 
@@ -68,52 +67,45 @@ fn numbers(content: u64, bytes: u64, out: &mut [u8], at: usize) -> usize
     piece(out, end, b"\n")
 }
 
-// Puts what a notice's line has behind the TP's number.
-fn notice(n: u64, out: &mut [u8], at: usize) -> usize
-    requires { at + 52 ≤ length out.old }
-    ensures { record { bytes = out.new; at = result } ≡ put out.old at (behind notice_word n 0) }
+// Puts a word, and the numbers behind it; one for each word's length, so that no call is needed to copy it.
+#[inline(always)]
+fn worded<const N: usize>(
+    word: &[u8; N],
+    content: u64,
+    bytes: u64,
+    out: &mut [u8],
+    at: usize,
+) -> usize
+    requires { (N ≤ 10) × (at + 52 ≤ length out.old) }
+    ensures { record { bytes = out.new; at = result } ≡ put out.old at (behind word.now content bytes) }
 {
-    let end = piece(out, at, b" notice ");
-    numbers(n, 0, out, end)
-}
-
-// Low data's.
-fn low(content: u64, bytes: u64, out: &mut [u8], at: usize) -> usize
-    requires { at + 52 ≤ length out.old }
-    ensures { record { bytes = out.new; at = result } ≡ put out.old at (behind low_word content bytes) }
-{
-    let end = piece(out, at, b" low ");
-    numbers(content, bytes, out, end)
-}
-
-// Ordinary data's.
-fn ordinary(content: u64, bytes: u64, out: &mut [u8], at: usize) -> usize
-    requires { at + 52 ≤ length out.old }
-    ensures { record { bytes = out.new; at = result } ≡ put out.old at (behind ordinary_word content bytes) }
-{
-    let end = piece(out, at, b" ordinary ");
+    let end = piece(out, at, word);
     numbers(content, bytes, out, end)
 }
 
 // Puts what the line of a find has behind the TP's number, where the longest has room.
+#[inline(always)]
 pub fn rest(find: Find, out: &mut [u8], at: usize) -> usize
     requires { at + 52 ≤ length out.old }
     ensures { record { bytes = out.new; at = result } ≡ put out.old at (rest_of find) }
 {
     match find {
         Find::Nothing => at,
-        Find::Refused => notice(1, out, at),
-        Find::Notice(n) => notice(n as u64, out, at),
+        Find::Refused => worded(b" notice ", 1, 0, out, at),
+        Find::Notice(n) => worded(b" notice ", n as u64, 0, out, at),
         Find::Low {
             content,
             start: _,
             len,
-        } => low(content as u64, len as u64, out, at),
-        Find::Ordinary { content, len } => ordinary(content as u64, len as u64, out, at),
+        } => worded(b" low ", content as u64, len as u64, out, at),
+        Find::Ordinary { content, len } => {
+            worded(b" ordinary ", content as u64, len as u64, out, at)
+        }
     }
 }
 
 // Puts the line of a find by way of a text of its own.
+#[cold]
 fn by_text(number: u64, find: Find, out: &mut [u8], at: usize) -> usize
     ensures { record { bytes = out.new; at = result } ≡ put out.old at (decimal number ++ rest_of find) }
 {
@@ -127,166 +119,38 @@ fn by_text(number: u64, find: Find, out: &mut [u8], at: usize) -> usize
 fn has_room(size: usize, at: usize) -> bool
     ensures { result ≡ nat_le (at + 80) size }
 {
-    if size < at {
-        return false;
+    at <= size && 80 <= size - at
+}
+
+// Puts the line of a find behind what is held, its TP's number by the ten that is kept. Inlined where it is called, as all of it is
+// but for the way by a text, so that a call with a find of one kind asks for no other.
+#[inline(always)]
+pub fn line_in(held: Numbered, number: u64, find: Find, out: &mut [u8]) -> Numbered
+    requires { Kept held.ten }
+    ensures kept { Kept result.ten }
+    ensures at_after { record { bytes = out.new; at = result.at } ≡ put out.old held.at (line_of number find) }
+{
+    if let Find::Nothing = find {
+        return held;
     }
-    80 <= size - at
+    if !has_room(out.len(), held.at) {
+        let end = by_text(number, find, out, held.at);
+        return Numbered { at: end, ..held };
+    }
+    let begun = tens::put(held.ten, number, out, held.at);
+    let end = rest(find, out, begun.at);
+    Numbered { at: end, ..begun }
 }
 
 // Puts the line of a find.
 pub fn line(number: u64, find: Find, out: &mut [u8], at: usize) -> usize
     ensures { record { bytes = out.new; at = result } ≡ put out.old at (line_of number find) }
 {
-    if let Find::Nothing = find {
-        return at;
-    }
-    if !has_room(out.len(), at) {
-        return by_text(number, find, out, at);
-    }
-    let end = block::put_number(out, at, number);
-    rest(find, out, end)
-}
-
-// Puts the line of a find that has one, its TP's number by the ten that is kept.
-fn line_in(ten: Ten, number: u64, find: Find, out: &mut [u8], at: usize) -> Numbered
-    requires kept { Kept ten }
-    requires in_bounds { 7 ≤ length (rest_of find) }
-    ensures kept_2 { Kept result.ten }
-    ensures at_after { record { bytes = out.new; at = result.at } ≡ put out.old at (decimal number ++ rest_of find) }
-{
-    if !has_room(out.len(), at) {
-        let held = by_text(number, find, out, at);
-        return Numbered { ten, at: held };
-    }
-    let begun = tens::put(ten, number, out, at);
-    let kept = begun.ten;
-    let held = rest(find, out, begun.at);
-    Numbered {
-        ten: kept,
-        at: held,
-    }
-}
-
-// Puts what `ordinary` puts, more of it at once where the content has one digit.
-fn packet(content: u8, bytes: u64, out: &mut [u8], at: usize) -> usize
-    requires { at + 52 ≤ length out.old }
-    ensures { record { bytes = out.new; at = result } ≡ put out.old at (behind ordinary_word content bytes) }
-{
-    if 9 < content {
-        return ordinary(content as u64, bytes, out, at);
-    }
-    let text = [
-        b' ',
-        b'o',
-        b'r',
-        b'd',
-        b'i',
-        b'n',
-        b'a',
-        b'r',
-        b'y',
-        b' ',
-        48 + content,
-        b' ',
-    ];
-    let mut held = piece(out, at, &text);
-    held = block::put_small(out, held, bytes);
-    piece(out, held, b"\n")
-}
-
-// Puts the line of an ordinary packet, its TP's number by the ten that is kept.
-pub fn ordinary_line(
-    ten: Ten,
-    number: u64,
-    content: u8,
-    len: usize,
-    out: &mut [u8],
-    at: usize,
-) -> Numbered
-    requires { Kept ten }
-    ensures kept { Kept result.ten }
-    ensures at_after { record { bytes = out.new; at = result.at } ≡ put out.old at (decimal number ++ rest_of (Ordinary content len)) }
-{
-    if !has_room(out.len(), at) {
-        let held = by_text(number, Find::Ordinary { content, len }, out, at);
-        return Numbered { ten, at: held };
-    }
-    let begun = tens::put(ten, number, out, at);
-    let kept = begun.ten;
-    let held = packet(content, len as u64, out, begun.at);
-    Numbered {
-        ten: kept,
-        at: held,
-    }
-}
-
-// Puts what `low` puts, more of it at once where the content has one digit.
-fn low_packet(content: u8, bytes: u64, out: &mut [u8], at: usize) -> usize
-    requires { at + 52 ≤ length out.old }
-    ensures { record { bytes = out.new; at = result } ≡ put out.old at (behind low_word content bytes) }
-{
-    if 9 < content {
-        return low(content as u64, bytes, out, at);
-    }
-    let text = [b' ', b'l', b'o', b'w', b' ', 48 + content, b' '];
-    let mut held = piece(out, at, &text);
-    held = block::put_small(out, held, bytes);
-    piece(out, held, b"\n")
-}
-
-// Puts the line of a low-latency packet, its TP's number by the ten that is kept.
-pub fn low_line(
-    ten: Ten,
-    number: u64,
-    content: u8,
-    start: usize,
-    len: usize,
-    out: &mut [u8],
-    at: usize,
-) -> Numbered
-    requires { Kept ten }
-    ensures kept { Kept result.ten }
-    ensures at_after { record { bytes = out.new; at = result.at } ≡ put out.old at (decimal number ++ rest_of (Low content start len)) }
-{
-    if !has_room(out.len(), at) {
-        let held = by_text(
-            number,
-            Find::Low {
-                content,
-                start,
-                len,
-            },
-            out,
-            at,
-        );
-        return Numbered { ten, at: held };
-    }
-    let begun = tens::put(ten, number, out, at);
-    let kept = begun.ten;
-    let held = low_packet(content, len as u64, out, begun.at);
-    Numbered {
-        ten: kept,
-        at: held,
-    }
-}
-
-// Puts the line of a notice, its TP's number by the ten that is kept.
-pub fn notice_line(ten: Ten, number: u64, n: u8, out: &mut [u8], at: usize) -> Numbered
-    requires { Kept ten }
-    ensures kept { Kept result.ten }
-    ensures at_after { record { bytes = out.new; at = result.at } ≡ put out.old at (decimal number ++ rest_of (Notice n)) }
-{
-    if !has_room(out.len(), at) {
-        let held = by_text(number, Find::Notice(n), out, at);
-        return Numbered { ten, at: held };
-    }
-    let begun = tens::put(ten, number, out, at);
-    let kept = begun.ten;
-    let held = notice(n as u64, out, begun.at);
-    Numbered {
-        ten: kept,
-        at: held,
-    }
+    let held = Numbered {
+        ten: first_ten(),
+        at,
+    };
+    line_in(held, number, find, out).at
 }
 
 // Asks for the next find of a TP, and puts its line.
@@ -306,15 +170,10 @@ pub fn step(
     ensures kept_2 { Kept result.ten }
 {
     let step = receiver::next(r, tp, room);
-    let found = step.find;
-    if let Find::Nothing = found {
-        return Listed { step, ten, at };
-    }
-    let held = line_in(ten, number, found, out, at);
-    let kept = held.ten;
+    let put = line_in(Numbered { ten, at }, number, step.find, out);
     Listed {
         step,
-        ten: kept,
-        at: held.at,
+        ten: put.ten,
+        at: put.at,
     }
 }

@@ -1,5 +1,5 @@
 // TP numbers, ten by ten: all but the last digit are the same, and are kept from line to line.
-ghost use Rattle.std.specs.Prelude.{◌≡◌, ◌+◌, ◌≤◌, length, take, drop};
+ghost use Rattle.std.specs.Prelude.{◌≡◌, ◌+◌, ◌≤◌, length};
 ghost use Rattle.listing.specs.Tens.{Kept, Begun};
 
 use crate::{Numbered, Ten, piece};
@@ -15,22 +15,6 @@ pub fn first_ten() -> Ten
     }
 }
 
-fn eight(s: &[u8], at: usize) -> [u8; 8]
-    requires { at + 8 ≤ length s.now }
-    ensures { result ≡ take 8 (drop at s.now) }
-{
-    [
-        s[at],
-        s[at + 1],
-        s[at + 2],
-        s[at + 3],
-        s[at + 4],
-        s[at + 5],
-        s[at + 6],
-        s[at + 7],
-    ]
-}
-
 // Writes all eight bytes of the text and the number's own last digit: the bytes behind that are written over by the line's rest.
 fn begin(ten: Ten, number: u64, out: &mut [u8], at: usize) -> usize
     requires kept { Kept ten }
@@ -38,8 +22,7 @@ fn begin(ten: Ten, number: u64, out: &mut [u8], at: usize) -> usize
     requires at_in_bounds { at + 20 ≤ length out.old }
     ensures { Begun out.old at number out.new result }
 {
-    let text = ten.text;
-    piece(out, at, &text);
+    piece(out, at, &ten.text);
     let last = at + ten.places - 1;
     out[last] = (57 - (ten.last - number)) as u8;
     last + 1
@@ -59,7 +42,7 @@ fn put_anew(ten: Ten, number: u64, out: &mut [u8], at: usize) -> Numbered
     Numbered {
         ten: Ten {
             last: number + left as u64,
-            text: eight(out, at),
+            text: out[at..at + 8].try_into().unwrap(),
             places: end - at,
         },
         at: end,
@@ -72,7 +55,7 @@ pub fn put(ten: Ten, number: u64, out: &mut [u8], at: usize) -> Numbered
     requires at_in_bounds { at + 20 ≤ length out.old }
     ensures { Begun out.old at number out.new result.at × Kept result.ten }
 {
-    if 9 < std::num::wrapping_sub_u64(ten.last, number) {
+    if 9 < ten.last.wrapping_sub(number) {
         return put_anew(ten, number, out, at);
     }
     Numbered {

@@ -11,10 +11,8 @@ mod sending;
 const LAST: u64 = 0x8000000000000000;
 
 fn fill(packet: &mut [u8]) {
-    let mut i = 0;
-    while i < packet.len() {
+    for i in 0..packet.len() {
         packet[i] = (i % 251) as u8;
-        i += 1;
     }
 }
 
@@ -34,8 +32,7 @@ fn turn(rt: &HostRuntime, packet: &[u8], queue: &mut [u8]) -> bool {
     if streams::read_full(rt, &mut head) < 1 {
         return false;
     }
-    let end = head[0];
-    match end {
+    match head[0] {
         1 => send(rt, packet, queue),
         2 => {
             receiving::input(rt);
@@ -49,11 +46,9 @@ fn main(rt: HostRuntime) {
     let mut packet = [0u8; 131072];
     fill(&mut packet);
     let mut queue = [0u8; 262144];
-    let mut left = LAST;
-    while 0 < left {
+    for _ in 0..LAST {
         if !turn(&rt, &packet, &mut queue) {
             return;
         }
-        left -= 1;
     }
 }

@@ -1,8 +1,8 @@
 // The receiving end: TPs from standard input, and what they give.
 ghost use Rattle.receiver.specs.State.{Able};
 
-use crate::samples::{print, sampled};
-use receiver::{Find, Opened, Receiver, over};
+use crate::samples::sampled;
+use receiver::{Find, Receiver, over};
 use std::num::wrapping_add_u64;
 
 // No TP gives so much, and no input has so many blocks: the loops end for this.
@@ -25,54 +25,19 @@ struct Run {
     tally: Tally,
 }
 
-// What a call leaves, and whether the TP has more to give.
-#[derive(Clone, Copy)]
-struct Asked {
-    run: Run,
-    goes_on: bool,
-}
-
 fn counted<'a>(t: Tally, find: Find, tp: &'a [u8], room: &'a [u8]) -> Tally {
     match find {
         Find::Nothing => t,
-        Find::Refused => with_other(t),
-        Find::Notice(_) => with_other(t),
-        Find::Low {
-            content: _,
-            start: _,
-            len: _,
-        } => with_other(t),
-        Find::Ordinary { content: _, len } => Tally {
+        Find::Refused | Find::Notice(_) | Find::Low { .. } => Tally {
+            others: wrapping_add_u64(t.others, 1),
+            ..t
+        },
+        Find::Ordinary { len, .. } => Tally {
             packets: wrapping_add_u64(t.packets, 1),
             bytes: wrapping_add_u64(t.bytes, len as u64),
-            others: t.others,
             digest: sampled(t.digest, receiver::found(tp, room, find)),
+            ..t
         },
-    }
-}
-
-fn with_other(t: Tally) -> Tally {
-    Tally {
-        packets: t.packets,
-        bytes: t.bytes,
-        others: wrapping_add_u64(t.others, 1),
-        digest: t.digest,
-    }
-}
-
-fn next(run: Run, tp: &[u8], room: &mut [u8]) -> Asked
-    requires { Able run.receiver }
-    ensures { Able result.run.receiver }
-{
-    let before = run.receiver;
-    let t = run.tally;
-    let step = receiver::next(before, tp, room);
-    let find = step.find;
-    let receiver = step.receiver;
-    let tally = counted(t, find, tp, room);
-    Asked {
-        run: Run { receiver, tally },
-        goes_on: receiver::lasts(find),
     }
 }
 
@@ -82,14 +47,15 @@ fn finds(first: Run, tp: &[u8], room: &mut [u8]) -> Run
     ensures { Able result.receiver }
 {
     let mut run = first;
-    let mut left = LAST;
-    while 0 < left {
-        let asked = next(run, tp, room);
-        run = asked.run;
-        if !asked.goes_on {
-            return run;
+    for _ in 0..LAST {
+        let step = receiver::next(run.receiver, tp, room);
+        run = Run {
+            receiver: step.receiver,
+            tally: counted(run.tally, step.find, tp, room),
+        };
+        if !receiver::lasts(step.find) {
+            break;
         }
-        left -= 1;
     }
     run
 }
@@ -99,12 +65,10 @@ fn whole(run: Run, tp: &[u8], room: &mut [u8]) -> Run
     requires { Able run.receiver }
     ensures { Able result.receiver }
 {
-    let before = run.receiver;
-    if over::is_data(before, tp, room.len()) {
-        let tally = run.tally;
+    if over::is_data(run.receiver, tp, room.len()) {
         return Run {
-            receiver: over::taken(before, tp, room),
-            tally,
+            receiver: over::taken(run.receiver, tp, room),
+            ..run
         };
     }
     finds(run, tp, room)
@@ -116,11 +80,8 @@ fn block(first: Run, tps: &[u8], room: &mut [u8]) -> Run
     ensures { Able result.receiver }
 {
     let mut run = first;
-    let mut i = 0;
-    while TP <= tps.len() - i {
-        let end = i + TP;
-        run = whole(run, &tps[i..end], room);
-        i = end;
+    for tp in tps.chunks_exact(TP) {
+        run = whole(run, tp, room);
     }
     run
 }
@@ -132,30 +93,20 @@ fn blocks(rt: &HostRuntime, first: Run, room: &mut [u8]) -> Run
 {
     let mut buf = [0u8; 131264];
     let mut run = first;
-    let mut left = LAST;
-    while 0 < left {
+    for _ in 0..LAST {
         let n = streams::read_full(rt, &mut buf);
-        run = block(run, &buf[0..n], room);
+        run = block(run, &buf[..n], room);
         if n < 131264 {
-            return run;
+            break;
         }
-        left -= 1;
     }
     run
-}
-
-fn report(rt: &HostRuntime, t: Tally) {
-    print(rt, b"received ", t.packets);
-    print(rt, b" bytes ", t.bytes);
-    print(rt, b" others ", t.others);
-    print(rt, b" digest ", t.digest);
-    streams::print(rt, b"\n");
 }
 
 // What is left of the input is TPs.
 pub fn input(rt: &HostRuntime) {
     let mut room = [0u8; 131072];
-    let Opened::Ready(receiver) = receiver::open(TP, 5, &room) else {
+    let Some(receiver) = receiver::open(TP, 5, &room) else {
         return;
     };
     let tally = Tally {
@@ -164,7 +115,9 @@ pub fn input(rt: &HostRuntime) {
         others: 0,
         digest: 0,
     };
-    let run = blocks(rt, Run { receiver, tally }, &mut room);
-    let t = run.tally;
-    report(rt, t);
+    let t = blocks(rt, Run { receiver, tally }, &mut room).tally;
+    let _ = println!(rt;
+        "received {} bytes {} others {} digest {}",
+        t.packets, t.bytes, t.others, t.digest
+    );
 }

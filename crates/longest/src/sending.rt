@@ -1,8 +1,8 @@
 // The sending end: packets offered, and drawn until none of their bytes is left.
 ghost use Rattle.sender.specs.Opening.{Sound};
 
-use crate::samples::{print, sampled};
-use sender::{Answer, Sender};
+use crate::samples::sampled;
+use sender::Sender;
 
 // TPs of 2,051 bytes that 131,072 bytes in three EPs take.
 const DRAWS: usize = 65;
@@ -19,11 +19,10 @@ fn draw(run: Run, low: &[u8], ordinary: &[u8], tp: &mut [u8]) -> Run
     requires { Sound run.sender }
     ensures { Sound result.sender }
 {
-    let s = run.sender;
-    match sender::draw(s, low, ordinary, tp) {
-        Answer::Refused(_) => run,
-        Answer::Done(t) => Run {
-            sender: t,
+    match sender::draw(run.sender, low, ordinary, tp) {
+        Err(_) => run,
+        Ok(sender) => Run {
+            sender,
             digest: sampled(run.digest, tp),
         },
     }
@@ -44,13 +43,9 @@ fn offer(run: Run, low: &[u8], ordinary: &mut [u8], packet: &[u8]) -> Run
     requires { Sound run.sender }
     ensures { Sound result.sender }
 {
-    let s = run.sender;
-    match sender::offer_ordinary(s, low, ordinary, 1, packet) {
-        Answer::Refused(_) => run,
-        Answer::Done(t) => Run {
-            sender: t,
-            digest: run.digest,
-        },
+    match sender::offer_ordinary(run.sender, low, ordinary, 1, packet) {
+        Err(_) => run,
+        Ok(sender) => Run { sender, ..run },
     }
 }
 
@@ -60,11 +55,9 @@ fn sent(first: Run, low: &[u8], ordinary: &mut [u8], packet: &[u8], count: usize
 {
     let mut tp = [0u8; 2051];
     let mut run = first;
-    let mut left = count;
-    while 0 < left {
+    for _ in 0..count {
         run = offer(run, low, ordinary, packet);
         run = draws(run, low, ordinary, &mut tp);
-        left -= 1;
     }
     run
 }
@@ -72,11 +65,9 @@ fn sent(first: Run, low: &[u8], ordinary: &mut [u8], packet: &[u8], count: usize
 // Sends the packet so many times.
 pub fn packets(rt: &HostRuntime, packet: &[u8], ordinary: &mut [u8], count: usize) {
     let low = [0u8; 16];
-    let Answer::Done(sender) = sender::open(2051, 5, 65535, &low, ordinary) else {
+    let Ok(sender) = sender::open(2051, 5, 65535, &low, ordinary) else {
         return;
     };
     let run = sent(Run { sender, digest: 0 }, &low, ordinary, packet, count);
-    print(rt, b"sent ", count as u64);
-    print(rt, b" digest ", run.digest);
-    streams::print(rt, b"\n");
+    let _ = println!(rt; "sent {count} digest {}", run.digest);
 }

@@ -2,125 +2,81 @@
 // 02). A refused packet is left out, and told on standard error.
 #![tactic(auto)]
 
-ghost use Rattle.std.specs.Prelude.{◌≡◌, ◌+◌, ◌≤◌, ◌<◌, length};
-ghost use Rattle.pack_loop.specs.Running.{Ready, Ahead};
+ghost use Rattle.house.specs.declared.Place.TheVariants.{Sending};
 
-use console::{BLOCKS, FULL, More, Start, Unread};
-use house::{AtHand, Place, Record};
+use console::{Console, FULL, Program, Refused, SIZE, Taken};
+use house::{Place, Record};
 
-// Between two records: how much of the output block is held, where in the input block the last record began and the next one
-// begins, and the number of the last one's refusal, or 0.
-#[derive(Clone, Copy)]
-struct Run {
+// Between two records: a buffer for a source packet, and how much of the output block is held. A record more than FULL bytes always
+// has room in it.
+#[derive(Drop)]
+struct Packing {
+    sp: [u8; 32768],
+    out: [u8; 131072],
     at: usize,
-    last: usize,
-    from: usize,
-    refused: u8,
 }
 
-// What one record becomes.
-fn turn(run: Run, said: Record, data: &[u8], sp: &mut [u8], out: &mut [u8]) -> Run
-    requires { run.from + 8 + length «data».now < 18446744073709551616 }
-    ensures { result.from ≡ run.from + 8 + length «data».now }
-{
-    let t = packing::turn(said, data, sp, out, run.at);
-    Run {
-        at: t.at,
-        last: run.from,
-        from: run.from + 8 + data.len(),
-        refused: t.refused,
-    }
-}
+impl Program for Packing {
+    const PLACE: Place = Place::Sending;
 
-// Takes the whole records of the input block, while the output block has room, up to the first packet that is refused.
-fn turns(first: Run, till: usize, sp: &mut [u8], block: &[u8], out: &mut [u8]) -> Run
-    requires { Ready first till (length block.now) }
-    ensures { Ahead first till result }
-{
-    let mut run = first;
-    while run.at < FULL {
-        let from = run.from;
-        let unread = &block[from..till];
-        let AtHand::Whole(said) = house::read_record(Place::Sending, unread) else {
-            return run;
-        };
-        let data = house::data_of(said, unread);
-        run = turn(run, said, data, sp, out);
-        if run.refused != 0 {
-            return run;
+    ghost PLACE = { Sending };
+
+    ghost Before = { λ _ _ _. Unit {0} };
+
+    ghost Behind = { λ _ _ _. Unit {0} };
+
+    fn take(&mut self, unread: &[u8]) -> Taken {
+        let mut bytes = 0;
+        while self.at < FULL {
+            let rest = &unread[bytes..];
+            let Ok(Some(said)) = house::read_record(Self::PLACE, rest) else {
+                break;
+            };
+            let data = house::data_of(said, rest);
+            let packed = packing::turn(said, data, &mut self.sp, &mut self.out, self.at);
+            let begin = bytes;
+            self.at = packed.at;
+            bytes += 8 + data.len();
+            if let Some(k) = packed.refused {
+                return Taken {
+                    bytes,
+                    refused: Some(Refused {
+                        begin,
+                        number: u8::from(k),
+                    }),
+                };
+            }
+        }
+        Taken {
+            bytes,
+            refused: None,
         }
     }
-    run
-}
 
-// Takes block after block.
-fn blocks(
-    rt: &HostRuntime,
-    first: Run,
-    input: Unread,
-    sp: &mut [u8],
-    block: &mut [u8],
-    out: &mut [u8],
-)
-    requires { Ready first input.till (length block.old) }
-{
-    let mut run = first;
-    let mut gone = input.gone;
-    let mut till = input.till;
-    let mut left = BLOCKS;
-    while 0 < left {
-        run = turns(run, till, sp, block, out);
-        if run.refused != 0 {
-            let from = run.last;
-            console::refused(rt, b"c7pack", Unread { gone, from, till }, run.refused);
-        }
-        let from = run.from;
-        let unread = Unread { gone, from, till };
-        let More::Read(next) = console::go_on(
-            rt,
-            b"c7pack",
-            Place::Sending,
-            block,
-            unread,
-            out,
-            run.at,
-        ) else {
-            return;
-        };
-        run = Run {
-            at: 0,
-            last: 0,
-            from: next.from,
-            refused: 0,
-        };
-        gone = next.gone;
-        till = next.till;
-        left -= 1;
+    fn held(&self) -> &[u8] {
+        &self.out[..self.at.min(self.out.len())]
     }
-}
 
-// A record more than FULL bytes always has room in the output block.
-fn pack(rt: &HostRuntime, unread: Unread, block: &mut [u8])
-    requires { (13 ≤ length block.old) × ((unread.from ≤ unread.till) × (unread.till ≤ length block.old)) }
-{
-    let mut sp = [0u8; 32768];
-    let mut out = [0u8; 131072];
-    let at = packing::put_record(Record::Setup, &block[8..13], &mut out, 0);
-    let from = unread.from;
-    let run = Run {
-        at,
-        last: 0,
-        from,
-        refused: 0,
-    };
-    blocks(rt, run, unread, &mut sp, block, &mut out);
+    fn empty(&mut self) {
+        self.at = 0;
+    }
 }
 
 // From standard input to standard output.
 pub fn from_input(rt: &HostRuntime) {
-    let mut block = [0u8; 131072];
-    let Start::Ready(_, unread) = console::first(rt, b"c7pack", &mut block) else {
+    let console = Console {
+        rt,
+        program: "c7pack",
+    };
+    let mut block = [0u8; SIZE];
+    let Some(start) = console.first(&mut block) else {
         return;
     };
-    pack(rt, unread, &mut block);
+    let mut packing = Packing {
+        sp: [0; 32768],
+        out: [0; 131072],
+        at: 0,
+    };
+    packing.at = packing::put_record(Record::Setup, &block[8..13], &mut packing.out, 0);
+    console.run(&mut packing, start.unread, &mut block);
 }

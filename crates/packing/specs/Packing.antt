@@ -1,14 +1,14 @@
 -- What c7pack does with each record of a script (R-1 of document 02): the packets of content 3 in kinds 1 and 2 are composed,
 -- all else stays as it is. A refused packet is left out, and its number told. Assumes nothing.
-use Rattle.std.specs.Prelude.{ℕ, Bool, false, cond, List, ◌++◌, eqb, length, drop}
+use Rattle.std.specs.Prelude.{ℕ, Bool, false, cond, List, ◌++◌, eqb, length, drop, Option, Some, None, Result, Ok, Err}
 use Rattle.block.specs.Block.{Block}
+use Rattle.chapter11.specs.declared.Refusal.{Refusal}
 use Rattle.chapter11.specs.Source.{Outcome, gives, refuses, composed_of}
 use Rattle.house.specs.Slices as W
 use Rattle.house.specs.Slices.{written_in}
 use Rattle.house.specs.declared.Record.{Record}
 use Rattle.house.specs.declared.Record.TheVariants.{Setup, Ordinary, Low, Draw, Packet, Gap}
-use Rattle.house.specs.declared.Written.{Written}
-use Rattle.house.specs.declared.Written.TheVariants.{Till, NoRoom, OtherLength}
+use Rattle.house.specs.declared.Unwritten.{Unwritten}
 
 -- an SP of content 3 is a Chapter 11 packet
 abbrev pub is_chapter11 : Record → Bool
@@ -29,10 +29,9 @@ of_length (Packet m) n = Packet m
 of_length Gap n = Gap
 
 -- how many bytes the output block holds then
-abbrev pub held_by : Written → ℕ → ℕ
-held_by (Till n) at = n
-held_by NoRoom at = at
-held_by OtherLength at = at
+abbrev pub held_by : Result ℕ Unwritten → ℕ → ℕ
+held_by (Ok n) at = n
+held_by (Err e) at = at
 
 abbrev pub block_by : W.Left → ℕ → Block
 block_by l at = record { bytes = l.bytes; at = held_by l.answer at }
@@ -41,18 +40,18 @@ block_by l at = record { bytes = l.bytes; at = held_by l.answer at }
 abbrev pub recorded : Record → List ℕ → Block → Block
 recorded r d o = block_by (written_in r d o.bytes o.at) o.at
 
--- what a turn leaves: the buffer for the source packet, the output block, and the number of a refusal, else 0
+-- what a turn leaves: the buffer for the source packet, the output block, and a refusal, if there was one
 pub record After : Type 0 where
   pub sp : List ℕ
   pub block : Block
-  pub refused : ℕ
+  pub refused : Option Refusal
 
 abbrev pub packed : Outcome → Record → List ℕ → Block → After
-packed (gives s) r sp o = record { sp = s ++ drop (length s) sp; block = recorded (of_length r (length s)) s o; refused = 0 }
-packed (refuses n) r sp o = record { sp = sp; block = o; refused = n }
+packed (gives s) r sp o = record { sp = s ++ drop (length s) sp; block = recorded (of_length r (length s)) s o; refused = None }
+packed (refuses k) r sp o = record { sp = sp; block = o; refused = Some k }
 
 unfoldable pub turn_of : Record → List ℕ → List ℕ → Block → After
 turn_of r d sp o =
     cond (is_chapter11 r)
     (packed (composed_of d (length sp)) r sp o)
-    (record { sp = sp; block = recorded r d o; refused = 0 })
+    (record { sp = sp; block = recorded r d o; refused = None })

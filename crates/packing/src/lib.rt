@@ -4,26 +4,23 @@
 ghost use Rattle.std.specs.Prelude.{◌≡◌};
 ghost use Rattle.packing.specs.Packing.{is_chapter11, of_length, recorded, turn_of};
 
-use chapter11::Answer;
-use house::{Record, Written};
+use chapter11::Refusal;
+use house::Record;
 
-// How many bytes of the output block are held, and the number if the packet was refused, else 0.
+// How many bytes of the output block are held, and why the packet was refused, if it was.
 #[derive(Clone, Copy)]
 pub struct Packed {
     pub at: usize,
-    pub refused: u8,
+    pub refused: Option<Refusal>,
 }
 
 fn is_chapter11(said: Record) -> bool
     ensures { result ≡ is_chapter11 said }
 {
     match said {
-        Record::Ordinary { content, length: _ } => content == 3,
-        Record::Low { content, length: _ } => content == 3,
-        Record::Setup => false,
-        Record::Draw => false,
-        Record::Packet { length: _ } => false,
-        Record::Gap => false,
+        Record::Ordinary { content, .. } => content == 3,
+        Record::Low { content, .. } => content == 3,
+        _ => false,
     }
 }
 
@@ -32,12 +29,9 @@ fn of_length(said: Record, n: usize) -> Record
     ensures { result ≡ of_length said n }
 {
     match said {
-        Record::Ordinary { content, length: _ } => Record::Ordinary { content, length: n },
-        Record::Low { content, length: _ } => Record::Low { content, length: n },
-        Record::Setup => Record::Setup,
-        Record::Draw => Record::Draw,
-        Record::Packet { length } => Record::Packet { length },
-        Record::Gap => Record::Gap,
+        Record::Ordinary { content, .. } => Record::Ordinary { content, length: n },
+        Record::Low { content, .. } => Record::Low { content, length: n },
+        _ => said,
     }
 }
 
@@ -45,11 +39,7 @@ fn of_length(said: Record, n: usize) -> Record
 pub fn put_record(said: Record, data: &[u8], out: &mut [u8], at: usize) -> usize
     ensures { record { bytes = out.new; at = result } ≡ recorded said «data».now (record { bytes = out.old; at = at }) }
 {
-    match house::write_record(said, data, out, at) {
-        Written::Till(end) => end,
-        Written::NoRoom => at,
-        Written::OtherLength => at,
-    }
+    house::write_record(said, data, out, at).unwrap_or(at)
 }
 
 // What one record becomes; sp is a buffer for the source packet.
@@ -59,14 +49,17 @@ pub fn turn(said: Record, data: &[u8], sp: &mut [u8], out: &mut [u8], at: usize)
     if !is_chapter11(said) {
         return Packed {
             at: put_record(said, data, out, at),
-            refused: 0,
+            refused: None,
         };
     }
     match chapter11::compose(data, sp) {
-        Answer::Refused(n) => Packed { at, refused: n },
-        Answer::Done(n) => Packed {
-            at: put_record(of_length(said, n), &sp[0..n], out, at),
-            refused: 0,
+        Err(k) => Packed {
+            at,
+            refused: Some(k),
+        },
+        Ok(n) => Packed {
+            at: put_record(of_length(said, n), &sp[..n], out, at),
+            refused: None,
         },
     }
 }

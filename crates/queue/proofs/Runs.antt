@@ -3,7 +3,6 @@ use mathlib.Core.Path.{◌≡◌, refl, sym, ap, ◌∙◌}
 use mathlib.Core.Bool.{cond}
 use mathlib.Core.Logic.{◌⊎◌, inl, inr, ⊎_elim}
 use Prim.Native.Nat.{ℕ, ◌+◌, ◌-◌, ◌≤◌, ◌<◌, min}
-use native.Mathlib.Nat.{sub-zero}
 use native.Mathlib.Omega.{arith}
 use lib.Dec.{leb}
 use borrow.Author.Tests.{le-leb, lt-leb}
@@ -11,8 +10,8 @@ use mathlib.Core.List.{List, ◌++◌, append_assoc}
 use lib.ListN.{length, take, drop, length-append, length-take, length-drop, take-append-drop}
 use lib.Seq.{paste, paste-zero, take_all, take-length, take-append-le, drop-append-le, take-take, drop-drop, length-take-le, length-paste, take_at, drop_at, take-add}
 use Rattle.queue.specs.declared.Ring.{Ring}
-use Rattle.queue.specs.Ring.{copied, around, held, written, Kept}
-use Rattle.queue.proofs.Copies.{drop_take, take_past, drop_past, paste_two, parts, paste_part, over, over_two, copied_all, split}
+use Rattle.queue.specs.Ring.{around, held, written, Kept}
+use Rattle.queue.proofs.Copies.{drop_take, take_past, drop_past, paste_two, parts, two_parts, both_parts, split}
 
 -- a run that starts at the tail and ends in the buffer
 pub after : (b s : List ℕ) (h l : ℕ) → h + l + length s ≤ length b → around (paste b (h + l) s (length s)) h ≡ paste (around b h) l s (length s)
@@ -99,12 +98,6 @@ undo b h p =
 
 -- the index of place i: past the buffer's end, or before it
 module _ (cap head i : ℕ) (p : head ≤ cap) where
-  pub place_past : cap - head ≤ i → i - (cap - head) ≡ cond (leb cap (head + i)) (head + i - cap) (head + i)
-  place_past h = let e : i - (cap - head) ≡ head + i - cap = omega arith in e ∙ rw (le-leb cap (head + i) (omega arith)) refl
-
-  pub place_before : i < cap - head → head + i ≡ cond (leb cap (head + i)) (head + i - cap) (head + i)
-  place_before h = rw (lt-leb cap (head + i) (omega arith)) refl
-
   module _ (at : ℕ) (a : at ≡ cond (leb cap (head + i)) (head + i - cap) (head + i)) where
     pub placed : (cap + at ≡ head + i) ⊎ ((at ≡ head + i) × (at < cap))
     placed =
@@ -138,8 +131,8 @@ module _ (b s : List ℕ) (q : Ring) (w : Kept b q) (p : length s ≤ length b -
       (λ h. is_written b s b' q w (omega arith) (rw (e, h.0) (after b s q.head q.len (omega arith))))
       (placed (length b) q.head q.len wh at a)
 
-  write_two : (b₁ b₂ : List ℕ) (k : ℕ) → q.head + q.len + k ≡ length b → k < length s → b₁ ≡ paste b (q.head + q.len) s k
-      → b₂ ≡ paste b₁ 0 (take (length s - k) (drop k s)) (length s - k) → b₂ ≡ written b q s
+  write_two : (b₁ b₂ : List ℕ) (k : ℕ) → q.head + q.len + k ≡ length b → k < length s → b₁ ≡ paste b (q.head + q.len) (take k s) (length (take k s))
+      → b₂ ≡ paste b₁ 0 (take (length s - k) (drop k s)) (length (take (length s - k) (drop k s))) → b₂ ≡ written b q s
   write_two b₁ b₂ k g h e₁ e₂ =
       let wl = w.len in
       let s₁ : List ℕ = take k s in
@@ -147,14 +140,12 @@ module _ (b s : List ℕ) (q : Ring) (w : Kept b q) (p : length s ≤ length b -
       let e : s₁ ++ s₂ ≡ s = parts s k in
       let m₁ : length s₁ ≡ k = length-take-le k s (omega arith) in
       let m₂ : length s₁ + length s₂ ≡ length s = sym (length-append s₁ s₂) ∙ ap length e in
-      let m₃ : length s - k ≡ length s₂ = omega arith in
-      let c₁ : b₁ ≡ paste b (q.head + q.len) s₁ (length s₁) = e₁ ∙ paste_part b s (q.head + q.len) k (omega arith) in
-      let c₂ : b₂ ≡ paste b₁ 0 s₂ (length s₂) = e₂ ∙ ap (paste b₁ 0 s₂) m₃ in
-      is_written b s b₂ q w (omega arith) (rw e at (both b s₁ s₂ b₁ b₂ q.head q.len (omega arith) (omega arith) c₁ c₂))
+      is_written b s b₂ q w (omega arith) (rw e at (both b s₁ s₂ b₁ b₂ q.head q.len (omega arith) (omega arith) e₁ e₂))
 
   -- up to the buffer's end, and then from its start
   pub write_runs : (b₁ b₂ : List ℕ) (at k : ℕ) → at ≡ cond (leb (length b) (q.head + q.len)) (q.head + q.len - length b) (q.head + q.len)
-      → k ≡ min (length s) (length b - at) → b₁ ≡ paste b at s k → b₂ ≡ paste b₁ 0 (take (length s - k) (drop k s)) (length s - k) → b₂ ≡ written b q s
+      → k ≡ min (length s) (length b - at) → b₁ ≡ paste b at (take k s) (length (take k s))
+      → b₂ ≡ paste b₁ 0 (take (length s - k) (drop k s)) (length (take (length s - k) (drop k s))) → b₂ ≡ written b q s
   write_runs b₁ b₂ at k a m e₁ e₂ =
       let wh = w.head in
       let wl = w.len in
@@ -162,28 +153,28 @@ module _ (b s : List ℕ) (q : Ring) (w : Kept b q) (p : length s ≤ length b -
       (λ g. write_run b₂ at a g (all (omega arith)))
       (λ g. ⊎_elim
       (λ h. absurd (omega arith))
-      (λ h. write_two b₁ b₂ k (omega arith) (omega arith) (e₁ ∙ ap (λ (z : ℕ). paste b z s k) h.0) e₂)
+      (λ h. write_two b₁ b₂ k (omega arith) (omega arith) (e₁ ∙ ap (λ (z : ℕ). paste b z (take k s) (length (take k s))) h.0) e₂)
       (placed (length b) q.head q.len wh at a))
       (split (at + length s) (length b))
     where
       all : k ≡ length s → b₂ ≡ paste b at s (length s)
       all l =
-          let z : length s - k ≡ 0 = omega arith in
-          e₂ ∙ ap (paste b₁ 0 (take (length s - k) (drop k s))) z ∙ sym (paste-zero b₁ 0 (take (length s - k) (drop k s))) ∙ e₁ ∙ ap (paste b at s) l
+          let s₂ : List ℕ = take (length s - k) (drop k s) in
+          let z : length s₂ ≡ 0 = omega (arith, length-take (length s - k) (drop k s)) in
+          e₂ ∙ ap (paste b₁ 0 s₂) z ∙ sym (paste-zero b₁ 0 s₂) ∙ e₁ ∙ ap (λ (x : List ℕ). paste b at x (length x)) (take_all k s (omega arith))
 
 module _ (b d : List ℕ) (q : Ring) (w : Kept b q) (p : length d ≤ q.len) where
-  pub read_one : (d' : List ℕ) → length d ≤ length b - q.head → d' ≡ paste d 0 (take (length b - q.head) (drop q.head b)) (length d) → d' ≡ take (length d) (held b q)
+  pub read_one : (d' : List ℕ) → length d ≤ length b - q.head → d' ≡ take (q.head + length d - q.head) (drop q.head b) → d' ≡ take (length d) (held b q)
   unfolding held around
   read_one d' r f =
       let h = q.head in
       let n = length d in
+      let e : h + n - h ≡ n = omega arith in
       let k : n ≤ length (drop h b) = omega (arith, length-drop h b) in
-      let e : take (length b - h) (drop h b) ≡ drop h b = take_all (length b - h) (drop h b) (omega (arith, length-drop h b)) in
-      over d (take n (drop h b)) d' (length-take-le n (drop h b) k) (f ∙ ap (λ (s : List ℕ). paste d 0 s n) e ∙ paste_part d (drop h b) 0 n k)
-      ∙ rw (take-take n q.len (drop h b ++ take h b) p, take-append-le n (drop h b) (take h b) k)
+      f ∙ rw (e, take-take n q.len (drop h b ++ take h b) p, take-append-le n (drop h b) (take h b) k)
 
-  pub read_two : (d₁ d₂ : List ℕ) → length b - q.head < length d → d₁ ≡ copied d 0 (take (length b - q.head) (drop q.head b))
-      → d₂ ≡ copied d₁ (length b - q.head) (take (length d - (length b - q.head) - 0) b) → d₂ ≡ take (length d) (held b q)
+  pub read_two : (d₁ d₂ : List ℕ) → length b - q.head < length d → d₁ ≡ take (length b - q.head) (drop q.head b)
+      → d₂ ≡ take (length d - (length b - q.head)) b → two_parts d d₁ d₂ (length b - q.head) ≡ take (length d) (held b q)
   unfolding held around
   read_two d₁ d₂ r f₁ f₂ =
       let h = q.head in
@@ -191,12 +182,7 @@ module _ (b d : List ℕ) (q : Ring) (w : Kept b q) (p : length d ≤ q.len) whe
       let m : ℕ = n - (length b - h) in
       let wh = w.head in
       let wl = w.len in
-      let s : List ℕ = take (length b - h) (drop h b) in
-      let t : List ℕ = take (m - 0) b in
-      let ls : length s ≡ length b - h = length-take-le (length b - h) (drop h b) (omega (arith, length-drop h b)) in
-      let lt : length t ≡ m - 0 = length-take-le (m - 0) b (omega arith) in
-      let c₁ : d₁ ≡ paste d 0 s (length s) = f₁ ∙ copied_all d s 0 (omega arith) in
-      let l₁ : length d₁ ≡ length d = ap length c₁ ∙ length-paste d 0 s (length s) (omega arith) (omega arith) in
-      let c₂ : d₂ ≡ paste d₁ (length b - h) t (length t) = f₂ ∙ copied_all d₁ t (length b - h) (omega arith) in
-      over_two d s t d₁ d₂ (length b - h) ls (omega arith) c₁ c₂
-      ∙ rw (take-take n q.len (drop h b ++ take h b) p, take_past (drop h b) (take h b) n m (omega (arith, length-drop h b)), take-take m h b (omega arith), sub-zero, take_all (length b - h) (drop h b) (omega (arith, length-drop h b)))
+      let l₁ : length d₁ ≡ length b - h = ap length f₁ ∙ length-take-le (length b - h) (drop h b) (omega (arith, length-drop h b)) in
+      let l₂ : length d₂ ≡ m = ap length f₂ ∙ length-take-le m b (omega arith) in
+      both_parts d d₁ d₂ (length b - h) l₁
+      ∙ rw (f₁, f₂, take-take n q.len (drop h b ++ take h b) p, take_past (drop h b) (take h b) n m (omega (arith, length-drop h b)), take-take m h b (omega arith), take_all (length b - h) (drop h b) (omega (arith, length-drop h b)))

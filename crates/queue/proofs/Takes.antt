@@ -3,15 +3,16 @@ use mathlib.Core.Path.{◌≡◌, refl, sym, ap, ◌∙◌}
 use mathlib.Core.Bool.{Bool, true, false, cond}
 use mathlib.Core.Logic.{⊎_elim}
 use mathlib.Core.List.{List, ◌++◌, append_assoc}
-use Prim.Native.Nat.{ℕ, ◌+◌, ◌-◌, ◌≤◌, ◌<◌}
+use Prim.Native.Nat.{ℕ, ◌+◌, ◌-◌, ◌≤◌, ◌<◌, min}
 use native.Mathlib.Nat.{add_assoc, sub-zero, sub-add-eq, add-zero}
 use native.Mathlib.Omega.{arith}
 use lib.Dec.{leb}
-use lib.ListN.{length, take, drop, get_or, length-take, length-drop, get_or-append}
+use lib.ListN.{length, take, drop, get_or, replicate, length-take, length-drop, length-replicate, get_or-append}
+use Rattle.std.proofs.lemmas.List.{take-replicate}
 use lib.Seq.{paste, drop-drop, length-take-le, get_or-take, get_or-drop, get_or-append-add}
 use borrow.Author.Tests.{le-leb, lt-leb, leb-true, leb-false}
 use Rattle.queue.specs.declared.Ring.{Ring}
-use Rattle.queue.specs.Ring.{around, held, Kept, kept, wrap, off, place, popped}
+use Rattle.queue.specs.Ring.{copied, around, held, Kept, kept, wrap, off, place, popped}
 use Rattle.queue.proofs.Copies.{split}
 use Rattle.queue.proofs.Runs.{rest_held, turn_on, turn_past, placed}
 use Rattle.queue.proofs.Puts.{and_left, and_right, is_kept}
@@ -75,6 +76,16 @@ part_pasted d x y at n p e =
     let f : at + n - at ≡ n = omega arith in
     let g : length (take (at + n - at) (drop at d)) ≡ n = rw f (length-take-le n (drop at d) (omega (arith, length-drop at d))) in
     rw (e, g, f, drop-drop n at d) (simp append_assoc)
+
+-- v written to n bytes of a buffer, as many as there is place for
+pub part_filled : (d f : List ℕ) (at n v k : ℕ) → at ≤ length d → k ≡ min n (length d - at)
+    → f ≡ replicate (length (take (at + k - at) (drop at d))) v
+    → take at d ++ (f ++ drop (at + k - at) (drop at d)) ≡ copied d at (replicate n v)
+part_filled d f at n v k p m e =
+    let l : length (replicate n v) ≡ n = length-replicate n v in
+    let g : length (take (at + k - at) (drop at d)) ≡ k = length-take-le (at + k - at) (drop at d) (omega (arith, length-drop at d)) ∙ omega arith in
+    let t : take k (replicate n v) ≡ replicate k v = take-replicate k n v (omega arith) in
+    part_pasted d f (replicate n v) at k (omega arith) (e ∙ rw g (sym t)) ∙ rw (l, m) refl
 
 pub in_part : (d : List ℕ) (at n m : ℕ) → n ≤ m → length (take (at + n - at) (drop at d)) ≤ m
 in_part d at n m h = let l = length-take (at + n - at) (drop at d) in omega arith

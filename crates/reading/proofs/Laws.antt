@@ -1,30 +1,28 @@
--- A record written into the block is put there, whole or not at all; and a find with no record puts nothing. Assumes nothing.
+-- A record written into the block is put there, whole or not at all. Assumes nothing.
 use Prim.Native.Nat.{ℕ, ◌+◌}
 use mathlib.Core.Path.{◌≡◌, refl, ap, sym, ◌∙◌}
 use mathlib.Core.Bool.{Bool, true, false, cond}
-use mathlib.Core.List.{List, [], ◌++◌, append-nil}
+use mathlib.Core.Logic.{◌⊎◌, inl, inr}
+use mathlib.Core.List.{List, []}
 use native.Mathlib.Omega.{arith}
 use borrow.Author.Tests.{eq-eqb, leb-true, leb-false}
 use lib.Dec.{leb}
-use lib.ListN.{length, take, drop, length-append, take-append-drop}
+use lib.ListN.{length, length-append}
+use Rattle.std.specs.Prelude.{Result, Ok, Err}
+use Rattle.std.specs.Result.{result_unwrap_or}
 use Rattle.block.specs.Block.{Block, placed, put}
-use Rattle.block.proofs.Laws.{fits, misfits, block_of}
+use Rattle.block.proofs.Laws.{fits, misfits, nothing, block_of}
 use Rattle.house.specs.Records.{length_of, head_of, record_bytes}
 use Rattle.house.specs.Slices as W
 use Rattle.house.specs.declared.Record.{Record}
-use Rattle.house.specs.declared.Written.{Written}
-use Rattle.house.specs.declared.Written.TheVariants.{Till, NoRoom, OtherLength}
+use Rattle.house.specs.declared.Unwritten.{Unwritten}
+use Rattle.house.specs.declared.Unwritten.TheVariants.{NoRoom}
 use Rattle.receiver.specs.declared.Find.{Find}
+use Rattle.receiver.specs.declared.Find.TheVariants.{Nothing, Refused, Notice}
 use Rattle.reading.specs.Packets.{packet_of}
 
--- how many bytes are held after an answer
-abbrev pub till : ℕ → Written → ℕ
-till at (Till n) = n
-till at NoRoom = at
-till at OtherLength = at
-
 abbrev block_by : ℕ → W.Left → Block
-block_by at l = block_of l.bytes (till at l.answer)
+block_by at l = block_of l.bytes (result_unwrap_or l.answer at)
 
 module _ (r : Record) (d out : List ℕ) (at : ℕ) (same : length d ≡ length_of r) where
   long : length (record_bytes r d) ≡ 8 + length d
@@ -35,7 +33,7 @@ module _ (r : Record) (d out : List ℕ) (at : ℕ) (same : length d ≡ length_
   all_or_none = rw (eq-eqb (length d) (length_of r) same) (go (leb (at + 8 + length d) (length out)) refl)
     where
       go : (t : Bool) → leb (at + 8 + length d) (length out) ≡ t
-          → block_by at (cond t (record { answer = Till (at + 8 + length d); bytes = placed out at (record_bytes r d) }) (record { answer = NoRoom; bytes = out }))
+          → block_by at (cond t (record { answer = Ok (at + 8 + length d); bytes = placed out at (record_bytes r d) }) (record { answer = Err NoRoom; bytes = out }))
           ≡ put out at (record_bytes r d)
       go true e =
           let end : at + 8 + length d ≡ at + length (record_bytes r d) = omega (arith, long) in
@@ -43,29 +41,19 @@ module _ (r : Record) (d out : List ℕ) (at : ℕ) (same : length d ≡ length_
           ∙ sym (fits out at (record_bytes r d) (omega (arith, long, leb-true (at + 8 + length d) (length out) e)))
       go false e = sym (misfits out at (record_bytes r d) (omega (arith, long, leb-false (at + 8 + length d) (length out) e)))
 
-  pub recorded : (y : List ℕ) {a : Written} (w : Written) → record { answer = a; bytes = y } ≡ W.written_in r d out at → a ≡ w
-      → block_of y (till at w) ≡ put out at (record_bytes r d)
-  recorded y w g is = ap (λ (x : Written). block_of y (till at x)) (sym is) ∙ ap (block_by at) g ∙ all_or_none
+-- a find with a record
+module _ (f : Find) (said r : Record) (d out : List ℕ) (at : ℕ) (y : List ℕ) (a : Result ℕ Unwritten) (n : ℕ) where
+  pub a_record : said ≡ r → length d ≡ length_of r → packet_of f d ≡ record_bytes r d → record { answer = a; bytes = y } ≡ W.written_in said d out at
+      → n ≡ result_unwrap_or a at → block_of y n ≡ put out at (packet_of f d)
+  a_record e same one w is =
+      ap (block_of y) is ∙ ap (block_by at) w ∙ ap (λ (s : Record). block_by at (W.written_in s d out at)) e ∙ all_or_none r d out at same ∙ ap (put out at) (sym one)
 
-nothing : (d : List ℕ) (at : ℕ) → block_of d at ≡ put d at []
-nothing d at = go (leb at (length d)) refl
-  where
-    stays : at + 0 ≡ at
-    stays = omega arith
+-- a find with none
+module _ (f : Find) (d out : List ℕ) (at : ℕ) where
+  no_packet : (f ≡ Nothing) ⊎ ((f ≡ Refused) ⊎ ((k : ℕ) × (f ≡ Notice k))) → [] ≡ packet_of f d
+  no_packet (inl e) = sym (ap (λ (x : Find). packet_of x d) e)
+  no_packet (inr (inl e)) = sym (ap (λ (x : Find). packet_of x d) e)
+  no_packet (inr (inr (k, e))) = sym (ap (λ (x : Find). packet_of x d) e)
 
-    go : (t : Bool) → leb at (length d) ≡ t → block_of d at ≡ put d at []
-    go true e =
-        sym
-        (fits d at [] (omega (arith, leb-true at (length d) e))
-        ∙ ap (λ (k : ℕ). block_of (take at d ++ [] ++ drop k d) k) stays
-        ∙ ap (λ (x : List ℕ). block_of (x ++ drop at d) at) (append-nil (take at d))
-        ∙ ap (λ (x : List ℕ). block_of x at) (take-append-drop at d))
-    go false e = sym (misfits d at [] (omega (arith, leb-false at (length d) e)))
-
--- a find with no record
-pub no_record : (d : List ℕ) (at : ℕ) (x : List ℕ) (g f : Find) → g ≡ f → packet_of f x ≡ [] → block_of d at ≡ put d at (packet_of g x)
-no_record d at x g f is none = nothing d at ∙ ap (put d at) (sym none ∙ ap (λ (y : Find). packet_of y x) (sym is))
-
--- a find with one
-pub a_record : (d y : List ℕ) (at n : ℕ) (x : List ℕ) (g f : Find) (s : List ℕ) → g ≡ f → packet_of f x ≡ s → block_of y n ≡ put d at s → block_of y n ≡ put d at (packet_of g x)
-a_record d y at n x g f s is one e = e ∙ ap (put d at) (sym one ∙ ap (λ (y : Find). packet_of y x) (sym is))
+  pub no_record : (f ≡ Nothing) ⊎ ((f ≡ Refused) ⊎ ((k : ℕ) × (f ≡ Notice k))) → block_of out at ≡ put out at (packet_of f d)
+  no_record e = nothing out at ∙ ap (put out at) (no_packet e)

@@ -1,14 +1,13 @@
 // One call of the receiver with the record of its find: what the reading program does, but for reading and writing.
 #![tactic(auto)]
 
-ghost use Rattle.std.specs.Prelude.{◌≡◌, length};
+ghost use Rattle.std.specs.Prelude.{◌≡◌};
 ghost use Rattle.block.specs.Block.{put};
-ghost use Rattle.house.specs.Records.{length_of, record_bytes};
 ghost use Rattle.receiver.specs.State.{Able};
 ghost use Rattle.receiver.specs.Call.{call_of, data_of, Gives};
 ghost use Rattle.reading.specs.Packets.{packet_of};
 
-use house::{Record, Written};
+use house::Record;
 use receiver::{Find, Receiver, Step};
 
 // What a call gave, and how many bytes of the output block are held.
@@ -18,36 +17,17 @@ pub struct Wrote {
     pub at: usize,
 }
 
-// Puts a record whose data are as long as it says.
-fn put_record(said: Record, data: &[u8], out: &mut [u8], at: usize) -> usize
-    requires { length «data».now ≡ length_of said }
-    ensures { record { bytes = out.new; at = result } ≡ put out.old at (record_bytes said «data».now) }
-{
-    match house::write_record(said, data, out, at) {
-        Written::Till(end) => end,
-        Written::NoRoom => at,
-        Written::OtherLength => at,
-    }
-}
-
 // Puts the record of a packet; a notice has none.
 pub fn packet(find: Find, data: &[u8], out: &mut [u8], at: usize) -> usize
     ensures { record { bytes = out.new; at = result } ≡ put out.old at (packet_of find «data».now) }
 {
     let length = data.len();
-    match find {
-        Find::Nothing => at,
-        Find::Refused => at,
-        Find::Notice(_) => at,
-        Find::Low {
-            content,
-            start: _,
-            len: _,
-        } => put_record(Record::Low { content, length }, data, out, at),
-        Find::Ordinary { content, len: _ } => {
-            put_record(Record::Ordinary { content, length }, data, out, at)
-        }
-    }
+    let said = match find {
+        Find::Low { content, .. } => Record::Low { content, length },
+        Find::Ordinary { content, .. } => Record::Ordinary { content, length },
+        Find::Nothing | Find::Refused | Find::Notice(_) => return at,
+    };
+    house::write_record(said, data, out, at).unwrap_or(at)
 }
 
 // Asks for the next find of a TP, and puts its record.
@@ -57,7 +37,7 @@ pub fn step(r: Receiver, tp: &[u8], room: &mut [u8], out: &mut [u8], at: usize) 
     ensures at_after { record { bytes = out.new; at = result.at } ≡ put out.old at (packet_of result.step.find (data_of result.step.find tp.now room.new)) }
 {
     let step = receiver::next(r, tp, room);
-    let find = step.find;
-    let held = packet(find, receiver::found(tp, room, find), out, at);
+    let data = receiver::found(tp, room, step.find);
+    let held = packet(step.find, data, out, at);
     Wrote { step, at: held }
 }

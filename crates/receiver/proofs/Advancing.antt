@@ -1,7 +1,6 @@
 -- Which clause of a turn's definition a test, or the phase, chooses. Assumes nothing.
 use mathlib.Core.Path.{ap, refl, sym, ◌∙◌, ◌≡◌}
 use mathlib.Core.Bool.{Bool, cond, false, true}
-use mathlib.Core.Option.{Option, none, some}
 use mathlib.Core.List.{List}
 use Prim.Native.Nat.{ℕ, ◌*◌, ◌+◌, ◌-◌, ◌<◌, ◌≤◌, min}
 use native.Mathlib.Omega.{arith}
@@ -9,13 +8,13 @@ use lib.Dec.{leb, ltb}
 use lib.ListN.{drop, length, take}
 use lib.Seq.{paste}
 use borrow.Author.Tests.{le-ltb, lt-ltb, ltb-false, ltb-true}
+use Rattle.std.specs.Prelude.{None, Option, Some}
 use Rattle.digits.specs.Digits.{number}
 use Rattle.wire.specs.Reading.{header_in}
 use Rattle.wire.specs.declared.Header.{Header}
 use Rattle.receiver.specs.declared.walk.Gain.{Gain}
 use Rattle.receiver.specs.declared.walk.Gain.TheVariants.{Nothing, Notice, Packet}
 use Rattle.receiver.specs.declared.walk.Kept.{Kept}
-use Rattle.receiver.specs.declared.walk.Kept.TheVariants.{Empty, Of}
 use Rattle.receiver.specs.declared.walk.Phase.{Phase}
 use Rattle.receiver.specs.declared.walk.Phase.TheVariants.{Body, Head, Judged, Lost}
 use Rattle.receiver.specs.declared.walk.Turn.{Turn}
@@ -31,20 +30,20 @@ use Rattle.receiver.specs.Turns.{admit_of, advance_by, advance_of, begun_at, bod
 use Rattle.receiver.specs.Pieces.{head_role, read_of, role_of}
 use Rattle.receiver.specs.Turn.{Fits, put_by, put_of}
 use Rattle.receiver.specs.InWalk.{room_by, room_of}
-use Rattle.receiver.specs.State.{Counts, Fine, Roomy, Sound}
+use Rattle.receiver.specs.State.{Counts, Fine, Roomy, Sound, kept_by}
 
-pub grown_of : (n c sum : ℕ) (b : Place) (l : ℕ) (k : Kept) → k ≡ Of c sum b l → Of c sum b (l + n) ≡ grown_by n k
+pub grown_of : (n c sum : ℕ) (b : Place) (l : ℕ) (k : Option Kept) → k ≡ kept_by c sum b l → kept_by c sum b (l + n) ≡ grown_by n k
 grown_of n c sum b l k e = sym (ap (grown_by n) e)
 
-pub counts : (cap n : ℕ) (k : Kept) → cap ≤ 18446744073709551615 → Roomy cap k n → Counts k n
-counts cap n Empty l r = r
-counts cap n (Of c sum b a) l r = omega arith
+pub counts : (cap n : ℕ) (k : Option Kept) → cap ≤ 18446744073709551615 → Roomy cap k n → Counts k n
+counts cap n None l r = r
+counts cap n (Some k) l r = omega arith
 
-pub less_roomy : (cap n z : ℕ) (k : Kept) → Roomy cap k z → n ≤ z → Roomy cap k n
-less_roomy cap n z Empty r l = r
-less_roomy cap n z (Of c sum b a) r l = omega arith
+pub less_roomy : (cap n z : ℕ) (k : Option Kept) → Roomy cap k z → n ≤ z → Roomy cap k n
+less_roomy cap n z None r l = r
+less_roomy cap n z (Some k) r l = omega arith
 
-module _ (tp : List ℕ) (at left : ℕ) (h : Header) (g : Place) (k : Kept) where
+module _ (tp : List ℕ) (at left : ℕ) (h : Header) (g : Place) (k : Option Kept) where
   pub body_cut : length tp - at < left
       → stops (at + (length tp - at)) (Body h (left - (length tp - at))) g (grown_by (length tp - at) k) Nothing ≡ body_turn tp at h left g k
   unfolding body_turn
@@ -69,6 +68,17 @@ pub room_by_lem : (w : Walk) (tp m : List ℕ) (p : Phase) → w.phase ≡ p →
 unfolding room_of
 room_by_lem w tp m p e = sym (ap (λ (p : Phase). room_by p w.at w.kept tp m) e)
 
+-- only data are put there
+pub room_else : (w : Walk) (tp m : List ℕ) → ((h : Header) (n : ℕ) → w.phase ≡ Body h n → ⊥) → m ≡ room_of w tp m
+unfolding room_of
+room_else w tp m f = by w.phase f
+  where
+    by : (p : Phase) → ((h : Header) (n : ℕ) → p ≡ Body h n → ⊥) → m ≡ room_by p w.at w.kept tp m
+    by Lost f = refl
+    by (Head n x) f = refl
+    by (Judged h) f = refl
+    by (Body h n) f = absurd (f h n refl)
+
 -- where a turn ends
 
 abbrev pub walk_of : Turn → Walk
@@ -79,15 +89,15 @@ fits_at : (at : ℕ) (h : Header) (g : Place) (c : Tag) (n cap : ℕ) → (walk_
 unfolding fits_of
 fits_at at h g c n cap = by (leb h.size (cap - n))
   where
-    by : (b : Bool) → (walk_of (cond b (goes at (Body h h.size) g (kept_as c n)) (stops at (Body h h.size) g Empty (Notice 15)))).at ≡ at
+    by : (b : Bool) → (walk_of (cond b (goes at (Body h h.size) g (kept_as c n)) (stops at (Body h h.size) g None (Notice 15)))).at ≡ at
     by true = refl
     by false = refl
 
-further_at : (at : ℕ) (h : Header) (g : Place) (k : Kept) (cap : ℕ) → (walk_of (further_of at h g k cap)).at ≡ at
-further_at at h g Empty cap = refl
-further_at at h g (Of c sum b n) cap = fits_at at h g (join_of (tag_of c sum b) (ep_at g h)) n cap
+further_at : (at : ℕ) (h : Header) (g : Place) (k : Option Kept) (cap : ℕ) → (walk_of (further_of at h g k cap)).at ≡ at
+further_at at h g None cap = refl
+further_at at h g (Some k) cap = fits_at at h g (join_of (tag_of k.content k.repaired k.began) (ep_at g h)) k.len cap
 
-pub admit_at : (d : Kind) (at : ℕ) (h : Header) (g : Place) (k : Kept) (cap : ℕ) → (walk_of (admit_of d at h g k cap)).at ≡ at
+pub admit_at : (d : Kind) (at : ℕ) (h : Header) (g : Place) (k : Option Kept) (cap : ℕ) → (walk_of (admit_of d at h g k cap)).at ≡ at
 admit_at Fill at h g k cap = refl
 admit_at Reserved at h g k cap = refl
 admit_at Complete at h g k cap = fits_at at h g (begin_of (ep_at g h)) 0 cap
@@ -95,20 +105,20 @@ admit_at First at h g k cap = fits_at at h g (begin_of (ep_at g h)) 0 cap
 admit_at Middle at h g k cap = further_at at h g k cap
 admit_at Last at h g k cap = further_at at h g k cap
 
-pub whole_at_lem : (at : ℕ) (o : Option Header) (g : Place) (k : Kept) (cap : ℕ) → (walk_of (whole_of at o g k cap)).at ≡ at
+pub whole_at_lem : (at : ℕ) (o : Option Header) (g : Place) (k : Option Kept) (cap : ℕ) → (walk_of (whole_of at o g k cap)).at ≡ at
 unfolding opened_of
-whole_at_lem at none g k cap = refl
-whole_at_lem at (some h) g k cap = by (meets_of (kind_of h) k h.content)
+whole_at_lem at None g k cap = refl
+whole_at_lem at (Some h) g k cap = by (meets_of (kind_of h) k h.content)
   where
-    by : (b : Bool) → (walk_of (cond b (admit_of (kind_of h) at h g k cap) (stops at (Judged h) g Empty (Notice 14)))).at ≡ at
+    by : (b : Bool) → (walk_of (cond b (admit_of (kind_of h) at h g k cap) (stops at (Judged h) g None (Notice 14)))).at ≡ at
     by true = admit_at (kind_of h) at h g k cap
     by false = refl
 
-handed_at : (at : ℕ) (g : Place) (k : Kept) → (walk_of (handed_of at g k)).at ≡ at
-handed_at at g Empty = refl
-handed_at at g (Of c sum b n) = refl
+handed_at : (at : ℕ) (g : Place) (k : Option Kept) → (walk_of (handed_of at g k)).at ≡ at
+handed_at at g None = refl
+handed_at at g (Some k) = refl
 
-pub finish_at : (d : Kind) (at : ℕ) (g : Place) (k : Kept) → (walk_of (finish_of d at g k)).at ≡ at
+pub finish_at : (d : Kind) (at : ℕ) (g : Place) (k : Option Kept) → (walk_of (finish_of d at g k)).at ≡ at
 finish_at Fill at g k = refl
 finish_at Reserved at g k = refl
 finish_at Complete at g k = handed_at at g k
@@ -117,7 +127,7 @@ finish_at Middle at g k = refl
 finish_at Last at g k = handed_at at g k
 
 module _ (tp : List ℕ) (at : ℕ) where
-  body_at : (h : Header) (left : ℕ) (g : Place) (k : Kept) → (walk_of (body_turn tp at h left g k)).at ≡ at + min left (length tp - at)
+  body_at : (h : Header) (left : ℕ) (g : Place) (k : Option Kept) → (walk_of (body_turn tp at h left g k)).at ≡ at + min left (length tp - at)
   unfolding body_turn
   body_at h left g k = by (ltb (length tp - at) left) refl
     where
@@ -127,7 +137,7 @@ module _ (tp : List ℕ) (at : ℕ) where
       by true e = let l = ltb-true (length tp - at) left e in omega arith
       by false e = let l = ltb-false (length tp - at) left e in finish_at (kind_of h) (at + left) g (grown_by left k) ∙ omega arith
 
-  head_at : (n w : ℕ) (g : Place) (k : Kept) (cap : ℕ) → at ≤ (walk_of (header_turn tp at n w g k cap)).at
+  head_at : (n w : ℕ) (g : Place) (k : Option Kept) (cap : ℕ) → at ≤ (walk_of (header_turn tp at n w g k cap)).at
   unfolding header_turn
   head_at n w g k cap = by (ltb (length tp - at) (6 - n))
     where
@@ -139,7 +149,7 @@ module _ (tp : List ℕ) (at : ℕ) where
       by true = omega arith
       by false = omega (arith, whole_at_lem (at + (6 - n)) o g k cap)
 
-  ahead_by : (p : Phase) (t : Stamp) (g : Place) (k : Kept) (cap : ℕ) → at ≤ length tp → at ≤ (walk_of (advance_by p t at g k cap tp)).at
+  ahead_by : (p : Phase) (t : Stamp) (g : Place) (k : Option Kept) (cap : ℕ) → at ≤ length tp → at ≤ (walk_of (advance_by p t at g k cap tp)).at
   ahead_by Lost t g k cap l = l
   ahead_by (Head n w) t g k cap l = head_at n w (begun_at t at n g) k cap
   ahead_by (Judged h) t g k cap l = omega (arith, admit_at (kind_of h) at h g k cap)
@@ -161,16 +171,16 @@ module _ (cap : ℕ) (t : Stamp) (w : Walk) (tp : List ℕ) where
       headed (Judged h) from to = refl
       headed (Body h n) from to = refl
 
-      by : (p : Phase) (k : Kept)
+      by : (p : Phase) (k : Option Kept)
           → put_by (role_of p k (walk_of (advance_by p t w.at w.began k cap tp)).phase) w.at (walk_of (advance_by p t w.at w.began k cap tp)).at tp m ≡ room_by p w.at k tp m
       by Lost k = refl
       by (Head n x) k = headed (walk_of (advance_by (Head n x) t w.at w.began k cap tp)).phase w.at (walk_of (advance_by (Head n x) t w.at w.began k cap tp)).at
       by (Judged h) k = refl
-      by (Body h left) Empty = refl
-      by (Body h left) (Of c sum b i) =
-          let e = body_at tp w.at h left w.began (Of c sum b i) in
-          let n : (walk_of (body_turn tp w.at h left w.began (Of c sum b i))).at - w.at ≡ min left (length tp - w.at) = omega arith in
-          ap (λ (n : ℕ). paste m i (drop w.at tp) n) n
+      by (Body h left) None = refl
+      by (Body h left) (Some k) =
+          let e = body_at tp w.at h left w.began (kept_by k.content k.repaired k.began k.len) in
+          let n : (walk_of (body_turn tp w.at h left w.began (kept_by k.content k.repaired k.began k.len))).at - w.at ≡ min left (length tp - w.at) = omega arith in
+          ap (λ (n : ℕ). paste m k.len (drop w.at tp) n) n
 
   pub advance_fits : Sound cap (length tp) w
       → Fits (role_of w.phase w.kept (walk_of (advance_of cap t w tp)).phase) ((walk_of (advance_of cap t w tp)).at - w.at) cap
@@ -183,15 +193,15 @@ module _ (cap : ℕ) (t : Stamp) (w : Walk) (tp : List ℕ) where
       headed (Judged h) n = omega arith
       headed (Body h i) n = omega arith
 
-      by : (p : Phase) (k : Kept) → Fine cap p k
+      by : (p : Phase) (k : Option Kept) → Fine cap p k
           → Fits (role_of p k (walk_of (advance_by p t w.at w.began k cap tp)).phase) ((walk_of (advance_by p t w.at w.began k cap tp)).at - w.at) cap
       by Lost k f = omega arith
       by (Head n x) k f = headed (walk_of (advance_by (Head n x) t w.at w.began k cap tp)).phase ((walk_of (advance_by (Head n x) t w.at w.began k cap tp)).at - w.at)
       by (Judged h) k f = omega arith
-      by (Body h left) Empty f = omega arith
-      by (Body h left) (Of c sum b i) f =
-          let e = body_at tp w.at h left w.began (Of c sum b i) in
-          let n : (walk_of (body_turn tp w.at h left w.began (Of c sum b i))).at - w.at ≡ min left (length tp - w.at) = omega arith in
+      by (Body h left) None f = omega arith
+      by (Body h left) (Some k) f =
+          let e = body_at tp w.at h left w.began (kept_by k.content k.repaired k.began k.len) in
+          let n : (walk_of (body_turn tp w.at h left w.began (kept_by k.content k.repaired k.began k.len))).at - w.at ≡ min left (length tp - w.at) = omega arith in
           omega arith
 
 -- a turn leaves less to do, unless it tells none
@@ -220,25 +230,25 @@ fits_rank : (at : ℕ) (h : Header) (g : Place) (c : Tag) (n cap : ℕ) → rank
 unfolding fits_of
 fits_rank at h g c n cap = by (leb h.size (cap - n))
   where
-    by : (b : Bool) → rank (walk_of (cond b (goes at (Body h h.size) g (kept_as c n)) (stops at (Body h h.size) g Empty (Notice 15)))).phase ≡ 1
+    by : (b : Bool) → rank (walk_of (cond b (goes at (Body h h.size) g (kept_as c n)) (stops at (Body h h.size) g None (Notice 15)))).phase ≡ 1
     by true = refl
     by false = refl
 
-admit_rank : (d : Kind) (at : ℕ) (h : Header) (g : Place) (k : Kept) (cap : ℕ) → rank (walk_of (admit_of d at h g k cap)).phase ≡ 1
+admit_rank : (d : Kind) (at : ℕ) (h : Header) (g : Place) (k : Option Kept) (cap : ℕ) → rank (walk_of (admit_of d at h g k cap)).phase ≡ 1
 admit_rank Fill at h g k cap = refl
 admit_rank Reserved at h g k cap = refl
 admit_rank Complete at h g k cap = fits_rank at h g (begin_of (ep_at g h)) 0 cap
 admit_rank First at h g k cap = fits_rank at h g (begin_of (ep_at g h)) 0 cap
-admit_rank Middle at h g Empty cap = refl
-admit_rank Middle at h g (Of c sum b n) cap = fits_rank at h g (join_of (tag_of c sum b) (ep_at g h)) n cap
-admit_rank Last at h g Empty cap = refl
-admit_rank Last at h g (Of c sum b n) cap = fits_rank at h g (join_of (tag_of c sum b) (ep_at g h)) n cap
+admit_rank Middle at h g None cap = refl
+admit_rank Middle at h g (Some k) cap = fits_rank at h g (join_of (tag_of k.content k.repaired k.began) (ep_at g h)) k.len cap
+admit_rank Last at h g None cap = refl
+admit_rank Last at h g (Some k) cap = fits_rank at h g (join_of (tag_of k.content k.repaired k.began) (ep_at g h)) k.len cap
 
-handed_rank : (at : ℕ) (g : Place) (k : Kept) → rank (walk_of (handed_of at g k)).phase ≡ 0
-handed_rank at g Empty = refl
-handed_rank at g (Of c sum b n) = refl
+handed_rank : (at : ℕ) (g : Place) (k : Option Kept) → rank (walk_of (handed_of at g k)).phase ≡ 0
+handed_rank at g None = refl
+handed_rank at g (Some k) = refl
 
-finish_rank : (d : Kind) (at : ℕ) (g : Place) (k : Kept) → rank (walk_of (finish_of d at g k)).phase ≡ 0
+finish_rank : (d : Kind) (at : ℕ) (g : Place) (k : Option Kept) → rank (walk_of (finish_of d at g k)).phase ≡ 0
 finish_rank Fill at g k = refl
 finish_rank Reserved at g k = refl
 finish_rank Complete at g k = handed_rank at g k
@@ -246,7 +256,7 @@ finish_rank First at g k = refl
 finish_rank Middle at g k = refl
 finish_rank Last at g k = handed_rank at g k
 
-module _ (cap : ℕ) (t : Stamp) (tp : List ℕ) (at : ℕ) (g : Place) (k : Kept) (l : at ≤ length tp) where
+module _ (cap : ℕ) (t : Stamp) (tp : List ℕ) (at : ℕ) (g : Place) (k : Option Kept) (l : at ≤ length tp) where
   abbrev toiled : Turn → ℕ
   toiled x = toil (length tp) (walk_of x)
 

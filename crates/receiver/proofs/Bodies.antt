@@ -1,7 +1,6 @@
 -- Reading an EP's data and a header on, in runs, and the loop over turns. Assumes nothing.
 use mathlib.Core.Path.{ap, refl, sym, ◌∙◌, ◌≡◌}
 use mathlib.Core.Bool.{Bool, cond, false, true}
-use mathlib.Core.Option.{none}
 use mathlib.Core.List.{List, [], append-nil, ◌++◌, ◌∷◌}
 use Prim.Native.Nat.{suc, zero, ℕ, ◌+◌, ◌-◌, ◌<◌, ◌^◌, ◌≤◌, min}
 use native.Mathlib.Omega.{arith}
@@ -9,13 +8,13 @@ use lib.Dec.{ltb}
 use lib.ListN.{drop, length, length-drop, take, take-append-drop}
 use lib.Seq.{drop-drop, get_or-drop, length-paste, length-take-le, sets-eq, take_all, take-paste}
 use borrow.Author.Tests.{ltb-false, ltb-true}
+use Rattle.std.specs.Prelude.{None, Option, Some}
 use Rattle.digits.specs.Digits.{digits, number}
 use Rattle.wire.specs.Reading.{header_in, header_of}
 use Rattle.wire.specs.declared.Header.{Header}
 use Rattle.receiver.specs.declared.walk.Answer.{Answer}
 use Rattle.receiver.specs.declared.walk.Gain.TheVariants.{Nothing}
 use Rattle.receiver.specs.declared.walk.Kept.{Kept}
-use Rattle.receiver.specs.declared.walk.Kept.TheVariants.{Empty, Of}
 use Rattle.receiver.specs.declared.walk.Phase.{Phase}
 use Rattle.receiver.specs.declared.walk.Phase.TheVariants.{Body, Head, Judged, Lost}
 use Rattle.receiver.specs.declared.walk.Turn.{Turn}
@@ -38,34 +37,34 @@ use Rattle.receiver.proofs.Run.{grows, grows_free, grows_held, lost_run, puts, p
 use Rattle.receiver.proofs.Turning.{admit_turned, finish_by, whole_turned}
 
 -- n bytes into the room
-pub kept_held : (cap n : ℕ) (k : Kept) (m x : List ℕ) → length m ≡ cap → Roomy cap k n → n ≤ length x
+pub kept_held : (cap n : ℕ) (k : Option Kept) (m x : List ℕ) → length m ≡ cap → Roomy cap k n → n ≤ length x
     → held_of (grown_by n k) (pasted k m x n) ≡ grows wire cap (held_of k m) (take n x)
-kept_held cap n Empty m x f r l = sym (grows_free wire cap (take n x))
-kept_held cap n (Of c sum b a) m x f r l = ap (held (tag_of c sum b)) (take-paste m a x n (omega arith) l) ∙ sym (grows_held wire cap (tag_of c sum b) (take a m) (take n x))
+kept_held cap n None m x f r l = sym (grows_free wire cap (take n x))
+kept_held cap n (Some k) m x f r l = ap (held (tag_of k.content k.repaired k.began)) (take-paste m k.len x n (omega arith) l) ∙ sym (grows_held wire cap (tag_of k.content k.repaired k.began) (take k.len m) (take n x))
 
-kept_room : (cap n : ℕ) (k : Kept) (m x : List ℕ) → length m ≡ cap → Roomy cap k n → n ≤ length x
+kept_room : (cap n : ℕ) (k : Option Kept) (m x : List ℕ) → length m ≡ cap → Roomy cap k n → n ≤ length x
     → pasted k m x n ≡ puts wire cap (held_of k m) (take n x) m
-kept_room cap n Empty m x f r l = sym (puts_free wire cap (take n x) m)
-kept_room cap n (Of c sum b a) m x f r l =
+kept_room cap n None m x f r l = sym (puts_free wire cap (take n x) m)
+kept_room cap n (Some k) m x f r l =
     let t = length-take-le n x l in
-    let e = sets-eq (take n x) m a (omega arith) in
-    sym (puts_held wire cap (tag_of c sum b) a (take a m) (take n x) m (sym (length-take-le a m (omega arith))) ∙ rw t at e)
+    let e = sets-eq (take n x) m k.len (omega arith) in
+    sym (puts_held wire cap (tag_of k.content k.repaired k.began) k.len (take k.len m) (take n x) m (sym (length-take-le k.len m (omega arith))) ∙ rw t at e)
 
-grown_room : (cap n z : ℕ) (k : Kept) → Roomy cap k (n + z) → Roomy cap (grown_by n k) z
-grown_room cap n z Empty r = r
-grown_room cap n z (Of c sum b a) r = omega arith
+grown_room : (cap n z : ℕ) (k : Option Kept) → Roomy cap k (n + z) → Roomy cap (grown_by n k) z
+grown_room cap n z None r = r
+grown_room cap n z (Some k) r = omega arith
 
 pub decoded : (n w : ℕ) (ds : List ℕ) → w < 256 ^ n → header_of (digits n w ++ ds) ≡ header_in (number w ds)
 unfolding header_of
 decoded n w ds h = ap header_in (number_append 0 (digits n w) ds ∙ ap (λ (x : ℕ). number x ds) (number_digits n w h))
 
-pub fewer : (cap n z : ℕ) (k : Kept) → Roomy cap k z → n ≤ z → Roomy cap k n
-fewer cap n z Empty r l = r
-fewer cap n z (Of c sum b a) r l = omega arith
+pub fewer : (cap n z : ℕ) (k : Option Kept) → Roomy cap k z → n ≤ z → Roomy cap k n
+fewer cap n z None r l = r
+fewer cap n z (Some k) r l = omega arith
 
-pasted_length : (cap n : ℕ) (k : Kept) (m x : List ℕ) → length m ≡ cap → Roomy cap k n → n ≤ length x → length (pasted k m x n) ≡ cap
-pasted_length cap n Empty m x f r l = f
-pasted_length cap n (Of c sum b a) m x f r l = length-paste m a x n (omega arith) l ∙ f
+pasted_length : (cap n : ℕ) (k : Option Kept) (m x : List ℕ) → length m ≡ cap → Roomy cap k n → n ≤ length x → length (pasted k m x n) ≡ cap
+pasted_length cap n None m x f r l = f
+pasted_length cap n (Some k) m x f r l = length-paste m k.len x n (omega arith) l ∙ f
 
 pub room_length : (cap : ℕ) (w : Walk) (tp m : List ℕ) → length m ≡ cap → Sound cap (length tp) w → length (room_of w tp m) ≡ cap
 unfolding room_of
@@ -82,11 +81,11 @@ module _ (cap : ℕ) where
   -- in an EP's data at the end of the bytes
   data_ends : (k j : ℕ) (h : Ep) (s : Held wire) (m : List ℕ) → 0 < k
       → pull wire cap (within wire h k) j (meet wire cap s m (ending wire h k)) []
-      ≡ record { find = none; at = j; frame = within wire h k; todo = ending wire h k; held = s; room = m }
+      ≡ record { find = None; at = j; frame = within wire h k; todo = ending wire h k; held = s; room = m }
   data_ends zero j h s m p = absurd (omega arith)
   data_ends (suc k) j h s m p = refl
 
-  module _ (t : Stamp) (tp m : List ℕ) (full : length m ≡ cap) (at left : ℕ) (h : Header) (g : Place) (k : Kept) (s : Sound cap (length tp) (walk_at at (Body h left) g k)) where
+  module _ (t : Stamp) (tp m : List ℕ) (full : length m ≡ cap) (at left : ℕ) (h : Header) (g : Place) (k : Option Kept) (s : Sound cap (length tp) (walk_at at (Body h left) g k)) where
     body_short : length tp - at < left
         → Carries cap t (walk_at at (Body h left) g k) tp m (stops (at + (length tp - at)) (Body h (left - (length tp - at))) g (grown_by (length tp - at) k) Nothing) (pasted k m (drop at tp) (length tp - at))
     unfolding Carries pull_of shown
@@ -104,7 +103,7 @@ module _ (cap : ℕ) where
         let x = run wire cap (ep_at g h) (left - r) (at + r) left at (held_of k m) m ps [] (omega arith) (omega arith) in
         let y = data_ends (left - r) (at + r) (ep_at g h) (grows wire cap (held_of k m) (plain wire ps)) (puts wire cap (held_of k m) (plain wire ps) m) (omega arith) in
         let z : pull wire cap (within wire (ep_at g h) left) at (meet wire cap (held_of k m) m (ending wire (ep_at g h) left)) ps
-        ≡ record { find = none; at = at + r; frame = within wire (ep_at g h) (left - r); todo = ending wire (ep_at g h) (left - r); held = grows wire cap (held_of k m) (drop at tp); room = puts wire cap (held_of k m) (drop at tp) m } =
+        ≡ record { find = None; at = at + r; frame = within wire (ep_at g h) (left - r); todo = ending wire (ep_at g h) (left - r); held = grows wire cap (held_of k m) (drop at tp); room = puts wire cap (held_of k m) (drop at tp) m } =
         rw (append-nil ps, plain_placed t at (drop at tp)) at (x ∙ y) in
         record {
           same = rw (a, b, all) (sym z);
@@ -151,7 +150,7 @@ module _ (cap : ℕ) where
       })
 
   module _ (t : Stamp) (tp m : List ℕ) (full : length m ≡ cap) (bytes : Bytes tp) where
-    header_by : (b : Bool) (at n w : ℕ) (g : Place) (k : Kept) → at ≤ length tp → Fine cap (Head n w) k → ltb (length tp - at) (6 - n) ≡ b
+    header_by : (b : Bool) (at n w : ℕ) (g : Place) (k : Option Kept) → at ≤ length tp → Fine cap (Head n w) k → ltb (length tp - at) (6 - n) ≡ b
         → Carries cap t (walk_at at (Head n w) g k) tp m
         (cond b (stops (at + (length tp - at)) (Head (n + (length tp - at)) (number w (take (length tp - at) (drop at tp)))) (begun_at t at n g) k Nothing)
         (whole_of (at + (6 - n)) (header_in (number w (take (6 - n) (drop at tp)))) (begun_at t at n g) k cap)) m

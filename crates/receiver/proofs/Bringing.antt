@@ -2,7 +2,6 @@
 -- kept, and give its find. Assumes nothing.
 use mathlib.Core.Path.{ap, refl, sym, ◌∙◌, ◌≡◌}
 use mathlib.Core.Bool.{Bool, cond, false, true}
-use mathlib.Core.Option.{Option, none, some}
 use mathlib.Core.List.{List, [], append-nil, ◌++◌, ◌∷◌}
 use Prim.Native.Nat.{ℕ, ◌+◌, ◌-◌, ◌≤◌}
 use native.Mathlib.Omega.{arith}
@@ -10,6 +9,7 @@ use lib.Dec.{leb}
 use lib.ListN.{length, take}
 use lib.Seq.{length-take-le}
 use borrow.Author.Tests.{le-leb, leb-false, leb-true, lt-leb}
+use Rattle.std.specs.Prelude.{None, Option, Some}
 use Rattle.digits.specs.Digits.{digits}
 use Rattle.wire.specs.declared.Header.{Header}
 use Rattle.receiver.specs.declared.Place.{Place}
@@ -17,7 +17,6 @@ use Rattle.receiver.specs.declared.kind.Kind.{Kind}
 use Rattle.receiver.specs.declared.kind.Kind.TheVariants.{Complete, Fill, First, Last, Middle, Reserved}
 use Rattle.receiver.specs.declared.walk.Gain.TheVariants.{Nothing, Notice}
 use Rattle.receiver.specs.declared.walk.Kept.{Kept}
-use Rattle.receiver.specs.declared.walk.Kept.TheVariants.{Empty, Of}
 use Rattle.receiver.specs.declared.walk.Phase.{Phase}
 use Rattle.receiver.specs.declared.walk.Phase.TheVariants.{Body, Head, Judged}
 use Rattle.receiver.specs.declared.walk.Turn.{Turn}
@@ -37,7 +36,7 @@ use Rattle.receiver.proofs.Seeing.{data_after, data_events, feeds, saw}
 
 -- what a turn tells
 abbrev pub gained : List ℕ → Turn → Option (Finding wire)
-gained m (More x) = none
+gained m (More x) = None
 gained m (Stop a) = find_of a.gain a.walk.began m
 
 abbrev came : List ℕ → Turn → Took wire
@@ -52,36 +51,36 @@ module _ (cap : ℕ) (m : List ℕ) (full : length m ≡ cap) where
       y = ap length x ∙ length-take-le n m (omega arith)
 
       by : (b : Bool) → leb h.size (cap - n) ≡ b
-          → fits wire cap (ep_at g h) c d ≡ came m (cond b (goes at (Body h h.size) g (kept_as c n)) (stops at (Body h h.size) g Empty (Notice 15)))
+          → fits wire cap (ep_at g h) c d ≡ came m (cond b (goes at (Body h h.size) g (kept_as c n)) (stops at (Body h h.size) g None (Notice 15)))
       by true q =
           let z : leb (length d + h.size) cap ≡ true = le-leb (length d + h.size) cap (omega (arith, y, leb-true h.size (cap - n) q)) in
-          rw z (ap (λ (d : List ℕ). (held c d, none)) x)
+          rw z (ap (λ (d : List ℕ). (held c d, None)) x)
       by false q =
           let z : leb (length d + h.size) cap ≡ false = lt-leb (length d + h.size) cap (omega (arith, y, leb-false h.size (cap - n) q)) in
           rw z
 
-  admit_came : (d : Kind) (at : ℕ) (h : Header) (g : Place) (k : Kept) → Roomy cap k 0 → admit wire cap d (ep_at g h) (held_of k m) ≡ came m (admit_of d at h g k cap)
+  admit_came : (d : Kind) (at : ℕ) (h : Header) (g : Place) (k : Option Kept) → Roomy cap k 0 → admit wire cap d (ep_at g h) (held_of k m) ≡ came m (admit_of d at h g k cap)
   admit_came Fill at h g k r = refl
   admit_came Reserved at h g k r = refl
   admit_came Complete at h g k r = fits_came at h g (begin_of (ep_at g h)) 0 [] refl (omega arith)
   admit_came First at h g k r = fits_came at h g (begin_of (ep_at g h)) 0 [] refl (omega arith)
-  admit_came Middle at h g Empty r = refl
-  admit_came Middle at h g (Of c sum b n) r = fits_came at h g (join_of (tag_of c sum b) (ep_at g h)) n (take n m) refl (omega arith)
-  admit_came Last at h g Empty r = refl
-  admit_came Last at h g (Of c sum b n) r = fits_came at h g (join_of (tag_of c sum b) (ep_at g h)) n (take n m) refl (omega arith)
+  admit_came Middle at h g None r = refl
+  admit_came Middle at h g (Some k) r = fits_came at h g (join_of (tag_of k.content k.repaired k.began) (ep_at g h)) k.len (take k.len m) refl (omega arith)
+  admit_came Last at h g None r = refl
+  admit_came Last at h g (Some k) r = fits_came at h g (join_of (tag_of k.content k.repaired k.began) (ep_at g h)) k.len (take k.len m) refl (omega arith)
 
-finish_came : (cap : ℕ) (m : List ℕ) (d : Kind) (at : ℕ) (g : Place) (k : Kept) → finish wire d (held_of k m) ≡ came m (finish_of d at g k)
+finish_came : (cap : ℕ) (m : List ℕ) (d : Kind) (at : ℕ) (g : Place) (k : Option Kept) → finish wire d (held_of k m) ≡ came m (finish_of d at g k)
 finish_came cap m Fill at g k = refl
 finish_came cap m Reserved at g k = refl
-finish_came cap m Complete at g Empty = refl
-finish_came cap m Complete at g (Of c sum b n) = refl
+finish_came cap m Complete at g None = refl
+finish_came cap m Complete at g (Some k) = refl
 finish_came cap m First at g k = refl
 finish_came cap m Middle at g k = refl
-finish_came cap m Last at g Empty = refl
-finish_came cap m Last at g (Of c sum b n) = refl
+finish_came cap m Last at g None = refl
+finish_came cap m Last at g (Some k) = refl
 
 -- a turn from this phase, of what began there, with this kept, over these bytes
-pub record Brings (cap : ℕ) (g : Place) (p : Phase) (k : Kept) (m : List ℕ) (bs : List (Place × ℕ)) (t : Turn) (m' : List ℕ) : Type 0 where
+pub record Brings (cap : ℕ) (g : Place) (p : Phase) (k : Option Kept) (m : List ℕ) (bs : List (Place × ℕ)) (t : Turn) (m' : List ℕ) : Type 0 where
   pub taken : List (Event wire)
   pub frame : after wire (frame_of g p) bs ≡ frame_of (walk_of t).began (walk_of t).phase
   pub told : todo_of g p ++ events wire (frame_of g p) bs ≡ taken ++ todo_of (walk_of t).began (walk_of t).phase
@@ -97,32 +96,32 @@ module _ (A : Type 0) (f : Place → Phase → A) where
   unfolding fits_of
   fits_left at h g c n cap = by (leb h.size (cap - n))
     where
-      by : (b : Bool) → left (cond b (goes at (Body h h.size) g (kept_as c n)) (stops at (Body h h.size) g Empty (Notice 15))) ≡ f g (Body h h.size)
+      by : (b : Bool) → left (cond b (goes at (Body h h.size) g (kept_as c n)) (stops at (Body h h.size) g None (Notice 15))) ≡ f g (Body h h.size)
       by true = refl
       by false = refl
 
-  admit_left : (d : Kind) (at : ℕ) (h : Header) (g : Place) (k : Kept) (cap : ℕ) → left (admit_of d at h g k cap) ≡ f g (Body h h.size)
+  admit_left : (d : Kind) (at : ℕ) (h : Header) (g : Place) (k : Option Kept) (cap : ℕ) → left (admit_of d at h g k cap) ≡ f g (Body h h.size)
   admit_left Fill at h g k cap = refl
   admit_left Reserved at h g k cap = refl
   admit_left Complete at h g k cap = fits_left at h g (begin_of (ep_at g h)) 0 cap
   admit_left First at h g k cap = fits_left at h g (begin_of (ep_at g h)) 0 cap
-  admit_left Middle at h g Empty cap = refl
-  admit_left Middle at h g (Of c sum b n) cap = fits_left at h g (join_of (tag_of c sum b) (ep_at g h)) n cap
-  admit_left Last at h g Empty cap = refl
-  admit_left Last at h g (Of c sum b n) cap = fits_left at h g (join_of (tag_of c sum b) (ep_at g h)) n cap
+  admit_left Middle at h g None cap = refl
+  admit_left Middle at h g (Some k) cap = fits_left at h g (join_of (tag_of k.content k.repaired k.began) (ep_at g h)) k.len cap
+  admit_left Last at h g None cap = refl
+  admit_left Last at h g (Some k) cap = fits_left at h g (join_of (tag_of k.content k.repaired k.began) (ep_at g h)) k.len cap
 
-  finish_left : (d : Kind) (at : ℕ) (g : Place) (k : Kept) → left (finish_of d at g k) ≡ f g (Head 0 0)
+  finish_left : (d : Kind) (at : ℕ) (g : Place) (k : Option Kept) → left (finish_of d at g k) ≡ f g (Head 0 0)
   finish_left Fill at g k = refl
   finish_left Reserved at g k = refl
-  finish_left Complete at g Empty = refl
-  finish_left Complete at g (Of c sum b n) = refl
+  finish_left Complete at g None = refl
+  finish_left Complete at g (Some k) = refl
   finish_left First at g k = refl
   finish_left Middle at g k = refl
-  finish_left Last at g Empty = refl
-  finish_left Last at g (Of c sum b n) = refl
+  finish_left Last at g None = refl
+  finish_left Last at g (Some k) = refl
 
 module _ (cap : ℕ) (m : List ℕ) (full : length m ≡ cap) where
-  pub judged_brings : (h : Header) (g : Place) (k : Kept) (at : ℕ) → Roomy cap k 0 → Brings cap g (Judged h) k m [] (admit_of (kind_of h) at h g k cap) m
+  pub judged_brings : (h : Header) (g : Place) (k : Option Kept) (at : ℕ) → Roomy cap k 0 → Brings cap g (Judged h) k m [] (admit_of (kind_of h) at h g k cap) m
   judged_brings h g k at r =
       let e = ep_at g h in
       let c = admit_came cap m full (kind_of h) at h g k r in
@@ -136,12 +135,12 @@ module _ (cap : ℕ) (m : List ℕ) (full : length m ≡ cap) where
       }
 
   -- a header, of which n bytes were read before, is whole; it began at b
-  pub whole_brings : (n v : ℕ) (g : Place) (bs : List (Place × ℕ)) (o : Option Header) (b : Place) (k : Kept) (at : ℕ) → Roomy cap k 0
+  pub whole_brings : (n v : ℕ) (g : Place) (bs : List (Place × ℕ)) (o : Option Header) (b : Place) (k : Option Kept) (at : ℕ) → Roomy cap k 0
       → saw (headed g (digits n v)) bs ≡ whole wire b (ep_if b o) → Brings cap g (Head n v) k m bs (whole_of at o b k cap) m
   unfolding opened_of
-  whole_brings n v g bs none b k at r e =
+  whole_brings n v g bs None b k at r e =
       record { taken = lose 12 b ∷ []; frame = ap (λ (o : Out wire). o.0) e; told = ap (λ (o : Out wire). o.1) e; held = refl; finds = refl }
-  whole_brings n v g bs (some h) b k at r e = by (meets_of (kind_of h) k h.content) (meets_law m (kind_of h) (ep_at b h) k)
+  whole_brings n v g bs (Some h) b k at r e = by (meets_of (kind_of h) k h.content) (meets_law m (kind_of h) (ep_at b h) k)
     where
       E : Ep
       E = ep_at b h
@@ -149,8 +148,8 @@ module _ (cap : ℕ) (m : List ℕ) (full : length m ≡ cap) where
       T₀ : Took wire
       T₀ = meets wire (kind_of h) E (held_of k m)
 
-      by : (x : Bool) → T₀ ≡ cond x (held_of k m, none) (free, some (notice 14 b))
-          → Brings cap g (Head n v) k m bs (cond x (admit_of (kind_of h) at h b k cap) (stops at (Judged h) b Empty (Notice 14))) m
+      by : (x : Bool) → T₀ ≡ cond x (held_of k m, None) (free, Some (notice 14 b))
+          → Brings cap g (Head n v) k m bs (cond x (admit_of (kind_of h) at h b k cap) (stops at (Judged h) b None (Notice 14))) m
       by false q = record {
         taken = opened E ∷ [];
         frame = ap (λ (o : Out wire). o.0) e;
@@ -180,7 +179,7 @@ fed_finds : (cap : ℕ) (s : Held wire) (ds : List ℕ) (es : List (Event wire))
 fed_finds cap s [] es = refl
 fed_finds cap s (d ∷ ds) es = fed_finds cap (grown wire s d) ds es
 
-module _ (cap : ℕ) (m m' : List ℕ) (h : Header) (g : Place) (k k' : Kept) (bs : List (Place × ℕ)) (kept : held_of k' m' ≡ grows wire cap (held_of k m) (plain wire bs)) where
+module _ (cap : ℕ) (m m' : List ℕ) (h : Header) (g : Place) (k k' : Option Kept) (bs : List (Place × ℕ)) (kept : held_of k' m' ≡ grows wire cap (held_of k m) (plain wire bs)) where
   abbrev ds : List ℕ
   ds = plain wire bs
 

@@ -1,24 +1,23 @@
 -- What a piece's own bytes bring to light, and a turn that brings it: what was left to be taken in and these events are those
 -- that the turn takes in and those that it leaves; they leave what is kept, and give the turn's find. Assumes nothing.
 use mathlib.Core.Path.{◌≡◌}
-use mathlib.Core.Bool.{cond}
+use mathlib.Core.Bool.{Bool, cond}
 use mathlib.Core.List.{List, [], ◌++◌}
 use Prim.Native.Nat.{ℕ, ◌-◌}
 use lib.Dec.{eqb}
 use lib.ListN.{drop, length, take}
+use Rattle.std.specs.Prelude.{None, Option, Some}
+use Rattle.wire.specs.declared.Header.{Header}
+use Rattle.receiver.specs.declared.Find.{Find}
 use Rattle.receiver.specs.declared.About.{About}
 use Rattle.receiver.specs.declared.Piece.{Piece}
 use Rattle.receiver.specs.declared.Receiver.{Receiver}
 use Rattle.receiver.specs.declared.Stage.{Stage}
 use Rattle.receiver.specs.declared.Stage.TheVariants.{Due, Fresh, Low, Plain}
 use Rattle.receiver.specs.declared.Stamp.{Stamp}
-use Rattle.receiver.specs.declared.Told.{Told}
-use Rattle.receiver.specs.declared.Told.TheVariants as T
 use Rattle.receiver.specs.declared.Turned.{Turned}
 use Rattle.receiver.specs.declared.entry.Top.{Top}
 use Rattle.receiver.specs.declared.entry.Top.TheVariants.{Dropped, Elsewhere, Says}
-use Rattle.receiver.specs.declared.low.Llep.{Llep}
-use Rattle.receiver.specs.declared.low.Llep.TheVariants.{Broken, Whole}
 use Rattle.receiver.specs.declared.stages.Stamps.{Stamps}
 use Rattle.receiver.specs.Call.{data_of, stamps_of}
 use Rattle.receiver.specs.Forecast.{Start, drops, outset}
@@ -43,9 +42,9 @@ top_brings (Dropped k) n f = heard_by f (dropping k n.now)
 top_brings (Says has o) n f = record { lows = []; told = []; frame = f }
 
 -- an LLEP with its end byte, which begins with this byte of a TP of this stamp
-abbrev pub llep_brings : Llep → Stamp → ℕ → Frame wire → List ℕ → Heard
-llep_brings Broken t at f own = heard_by f (record { lows = []; way = drops 11 (place_at t at) })
-llep_brings (Whole h more) t at f own = record { lows = given (kind_of h) (place_at t at) h own; told = []; frame = f }
+abbrev pub llep_brings : Option (Header × Bool) → Stamp → ℕ → Frame wire → List ℕ → Heard
+llep_brings None t at f own = heard_by f (record { lows = []; way = drops 11 (place_at t at) })
+llep_brings (Some (h, more)) t at f own = record { lows = given (kind_of h) (place_at t at) h own; told = []; frame = f }
 
 -- the outset, with the bytes that it passes over
 abbrev pub start_brings : Start wire → Heard
@@ -70,9 +69,9 @@ abbrev pub brought : Receiver → List ℕ → List ℕ → Heard
 brought r tp own = cond (eqb (length tp) r.size) (stage_brings r.stage r tp own) (heard_by (frame_in r) (refusing 6 (stamp_of r)))
 
 -- what a turn tells, with what it carries
-abbrev pub tells : Told → About → List ℕ → List ℕ → List (Finding wire)
-tells T.More a tp m = []
-tells (T.Gives f) a tp m = saying 0 f a (data_of f tp m)
+abbrev pub tells : Option Find → About → List ℕ → List ℕ → List (Finding wire)
+tells None a tp m = []
+tells (Some f) a tp m = saying 0 f a (data_of f tp m)
 
 -- a turn that takes in these events, and leaves the others
 pub record Takes (h : Heard) (r : Receiver) (tp m : List ℕ) (q : Turned) (m' : List ℕ) : Type 0 where

@@ -2,17 +2,16 @@
 -- walk. Both turns read the same LLEP, at `drop at tp`. Assumes nothing.
 use mathlib.Core.Path.{ap, refl, sym, ◌∙◌, ◌≡◌}
 use mathlib.Core.Bool.{Bool, cond, false, true}
-use mathlib.Core.Option.{Option, none, some}
 use mathlib.Core.List.{List, [], append_assoc, ◌++◌, ◌∷◌}
 use Prim.Native.Nat.{suc, zero, ℕ, ◌+◌, ◌-◌, ◌<◌, ◌≤◌}
 use native.Mathlib.Omega.{arith}
 use lib.Dec.{eqb, leb, ltb}
 use lib.ListN.{drop, length, length-drop}
 use lib.Seq.{drop-drop}
+use Rattle.std.specs.Prelude.{None, Some, Option}
+use Rattle.wire.specs.declared.Header.{Header}
 use Rattle.receiver.specs.declared.Place.{Place}
 use Rattle.receiver.specs.declared.Stamp.{Stamp}
-use Rattle.receiver.specs.declared.low.Llep.{Llep}
-use Rattle.receiver.specs.declared.low.Llep.TheVariants.{Broken, Whole}
 use Rattle.receiver.specs.Forecast.{Start, by_way, dropped, drops, goes, outset, read, start, way_at}
 use Rattle.receiver.specs.Frame.{Frame, Out, after, events, lose, lost}
 use Rattle.receiver.specs.Join.{Finding, Held, finds, free, holding, notice}
@@ -49,15 +48,15 @@ module _ (cap : ℕ) (t : Stamp) (f : Frame wire) (s : Held wire) (o : ℕ) (tp 
 
   behind_before : (gs : List (Finding wire)) (p : Part) (b : Option (List ℕ)) (bs : List ℕ)
       → made (behind (ahead gs p) b t o bs) ≡ before gs (made (behind p b t o bs))
-  behind_before gs p none bs =
+  behind_before gs p None bs =
       ap (λ (l : List (Finding wire)). (l, standing lost free)) (append_assoc gs p.finds (notice 11 (place_at t p.from) ∷ []))
-  behind_before gs p (some rest) bs =
-      let h = heard_by f (behind p (some rest) t o bs) in
+  behind_before gs p (Some rest) bs =
+      let h = heard_by f (behind p (Some rest) t o bs) in
       ap (λ (l : List (Finding wire)). (l, standing h.frame (holding wire cap s h.told))) (append_assoc gs p.finds (finds wire cap s h.told))
 
   -- the bytes behind a low-latency part that ends at this place
   abbrev from_here : ℕ → Part
-  from_here i = record { finds = []; behind = some (drop i tp); from = i }
+  from_here i = record { finds = []; behind = Some (drop i tp); from = i }
 
   reading_at : (x : Start wire) (at : ℕ)
       → heard_from cap s (record { lows = []; told = (read wire x (placed t at (drop at tp))).1; frame = (read wire x (placed t at (drop at tp))).0 })
@@ -66,7 +65,7 @@ module _ (cap : ℕ) (t : Stamp) (f : Frame wire) (s : Held wire) (o : ℕ) (tp 
       ap (λ l. heard_from cap s (record { lows = []; told = x.told ++ events wire x.frame l; frame = after wire x.frame l }))
       (drop_placed t x.past at (drop at tp) ∙ ap (placed t (at + x.past)) (drop-drop x.past at tp))
 
-  pub due_list : (i : ℕ) → 4 ≤ i → i ≤ length tp → made (behind (from_here i) (some (drop i tp)) t o (drop 4 tp)) ≡ due_rest cap t f s o i tp
+  pub due_list : (i : ℕ) → 4 ≤ i → i ≤ length tp → made (behind (from_here i) (Some (drop i tp)) t o (drop 4 tp)) ≡ due_rest cap t f s o i tp
   unfolding due_rest
   due_list i a b =
       let bs = placed t i (drop i tp) in
@@ -84,23 +83,23 @@ module _ (cap : ℕ) (t : Stamp) (f : Frame wire) (s : Held wire) (o : ℕ) (tp 
   abbrev listly : Part → Listing
   listly p = made (behind p p.behind t o (drop 4 tp))
 
-  walk_by : (l : Llep) (k k' at : ℕ) → llep (drop at tp) ≡ l → 4 ≤ at → length tp - at < suc k → length tp - at < suc k'
+  walk_by : (l : Option (Header × Bool)) (k k' at : ℕ) → llep (drop at tp) ≡ l → 4 ≤ at → length tp - at < suc k → length tp - at < suc k'
       → ((i : ℕ) → 4 ≤ i → i ≤ length tp → length tp - i < k → length tp - i < k' → listly (walk k t i (drop i tp)) ≡ low_rest cap t k' f s o i tp)
       → listly (walked l t at (drop at tp) (λ j rest. walk k t j rest)) ≡ low_on cap t l f s o at tp (λ i. low_rest cap t k' f s o i tp)
-  walk_by Broken k k' at e a b c ih = sym (lost_rest cap t 11 (place_at t at) s at tp)
-  walk_by (Whole h true) k k' at e a b c ih =
+  walk_by None k k' at e a b c ih = sym (lost_rest cap t 11 (place_at t at) s at tp)
+  walk_by (Some (h, true)) k k' at e a b c ih =
       let gs = given (kind_of h) (place_at t at) h (drop at tp) in
       let w = walk k t (at + 7 + h.size) (drop (7 + h.size) (drop at tp)) in
       let q = inside_at tp at h true e in
       behind_before gs w w.behind (drop 4 tp)
       ∙ ap (λ (l : List ℕ). before gs (listly (walk k t (at + 7 + h.size) l))) (step_on at h.size)
       ∙ ap (before gs) (ih (at + 7 + h.size) (omega arith) q (omega arith) (omega arith))
-  walk_by (Whole h false) k k' at e a b c ih =
+  walk_by (Some (h, false)) k k' at e a b c ih =
       let gs = given (kind_of h) (place_at t at) h (drop at tp) in
       let i = at + 7 + h.size in
       let q = inside_at tp at h false e in
-      behind_before gs (record { finds = []; behind = some (drop (7 + h.size) (drop at tp)); from = i }) (some (drop (7 + h.size) (drop at tp))) (drop 4 tp)
-      ∙ ap (λ (l : List ℕ). before gs (made (behind (record { finds = []; behind = some l; from = i }) (some l) t o (drop 4 tp)))) (step_on at h.size)
+      behind_before gs (record { finds = []; behind = Some (drop (7 + h.size) (drop at tp)); from = i }) (Some (drop (7 + h.size) (drop at tp))) (drop 4 tp)
+      ∙ ap (λ (l : List ℕ). before gs (made (behind (record { finds = []; behind = Some l; from = i }) (Some l) t o (drop 4 tp)))) (step_on at h.size)
       ∙ ap (before gs) (due_list i (omega arith) q)
 
   -- with any count of turns that suffices

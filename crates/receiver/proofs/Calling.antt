@@ -2,12 +2,12 @@
 -- Assumes nothing.
 use mathlib.Core.Path.{ap, refl, subst, sym, ◌∙◌, ◌≡◌}
 use mathlib.Core.Bool.{Bool, cond, false, true}
-use mathlib.Core.Option.{none, some}
 use mathlib.Core.List.{List, [], ◌∷◌}
 use Prim.Native.Nat.{suc, zero, ℕ, ◌+◌, ◌<◌, ◌≤◌}
 use native.Mathlib.Omega.{arith}
 use lib.ListN.{drop, length, length-drop, take}
 use lib.Seq.{length-take-le}
+use Rattle.std.specs.Prelude.{None, Some, Option}
 use Rattle.receiver.specs.declared.Place.{Place}
 use Rattle.receiver.specs.declared.Stamp.{Stamp}
 use Rattle.receiver.specs.declared.Find.{Find}
@@ -17,7 +17,6 @@ use Rattle.receiver.specs.declared.Stage.TheVariants.{Due, Fresh, Low, Plain}
 use Rattle.receiver.specs.declared.walk.Answer.{Answer}
 use Rattle.receiver.specs.declared.walk.Gain.{Gain}
 use Rattle.receiver.specs.declared.walk.Kept.{Kept}
-use Rattle.receiver.specs.declared.walk.Kept.TheVariants.{Empty, Of}
 use Rattle.receiver.specs.declared.walk.Phase.{Phase}
 use Rattle.receiver.specs.declared.walk.Phase.TheVariants.{Body, Head, Judged, Lost}
 use Rattle.receiver.specs.declared.walk.Walk.{Walk}
@@ -44,24 +43,24 @@ use Rattle.receiver.specs.declared.walk.Gain.TheVariants as G
 
 module _ (cap : ℕ) where
   upto_none : (x : Met wire) (f : Frame wire) (at : ℕ) (go : Held wire → List ℕ → Pulled wire)
-      → ((s : Held wire) (m : List ℕ) → (go s m).find ≡ none → (go s m).todo ≡ []) → (upto wire x f at go).find ≡ none → (upto wire x f at go).todo ≡ []
+      → ((s : Held wire) (m : List ℕ) → (go s m).find ≡ None → (go s m).todo ≡ []) → (upto wire x f at go).find ≡ None → (upto wire x f at go).todo ≡ []
   upto_none (dry s m) f at go q e = q s m e
   upto_none (found x s m es) f at go q e = cc
 
-  reads_none : (bs : List (Place × ℕ)) (f : Frame wire) (at : ℕ) (s : Held wire) (m : List ℕ) → (reads wire cap bs f at s m).find ≡ none → (reads wire cap bs f at s m).todo ≡ []
+  reads_none : (bs : List (Place × ℕ)) (f : Frame wire) (at : ℕ) (s : Held wire) (m : List ℕ) → (reads wire cap bs f at s m).find ≡ None → (reads wire cap bs f at s m).todo ≡ []
   reads_none [] f at s m e = refl
   reads_none (b ∷ bs) f at s m e =
       upto_none (meet wire cap s m (step wire f b).1) (step wire f b).0 (suc at) (λ s' m'. reads wire cap bs (step wire f b).0 (suc at) s' m')
       (λ s' m' q. reads_none bs (step wire f b).0 (suc at) s' m' q) e
 
-  pub pull_of_none : (t : Stamp) (w : Walk) (tp m : List ℕ) → (pull_of cap t w tp m).find ≡ none → (pull_of cap t w tp m).todo ≡ []
+  pub pull_of_none : (t : Stamp) (w : Walk) (tp m : List ℕ) → (pull_of cap t w tp m).find ≡ None → (pull_of cap t w tp m).todo ≡ []
   unfolding pull_of
   pull_of_none t w tp m e =
       let f = frame_of w.began w.phase in
       let bs = placed t w.at (drop w.at tp) in
       upto_none (meet wire cap (held_of w.kept m) m (todo_of w.began w.phase)) f w.at (λ s m. reads wire cap bs f w.at s m) (λ s m q. reads_none bs f w.at s m q) e
 
-settled_of : (cap : ℕ) (g : Place) (p : Phase) (k : Kept) → Fine cap p k → todo_of g p ≡ [] → Settled p
+settled_of : (cap : ℕ) (g : Place) (p : Phase) (k : Option Kept) → Fine cap p k → todo_of g p ≡ [] → Settled p
 settled_of cap g Lost k f e = omega arith
 settled_of cap g (Head n w) k f e = (f.0, f.1)
 settled_of cap g (Judged h) k f e = let z : ◌≡◌ {A = ℕ} 0 1 = cc in omega arith
@@ -70,13 +69,13 @@ settled_of cap g (Body h (suc n)) k f e = omega arith
 
 -- what is kept lies in the room, so that its length is told
 
-keeps_in : (cap : ℕ) (k : Kept) → Roomy cap k 0 → keeps k ≤ cap
-keeps_in cap Empty r = omega arith
-keeps_in cap (Of c sum b n) r = omega arith
+keeps_in : (cap : ℕ) (k : Option Kept) → Roomy cap k 0 → keeps k ≤ cap
+keeps_in cap None r = omega arith
+keeps_in cap (Some k) r = omega arith
 
-kept_told : (m : List ℕ) (k : Kept) → keeps k ≤ length m → keeps k ≡ holds (held_of k m)
-kept_told m Empty l = refl
-kept_told m (Of c sum b n) l = sym (length-take-le n m l)
+kept_told : (m : List ℕ) (k : Option Kept) → keeps k ≤ length m → keeps k ≡ holds (held_of k m)
+kept_told m None l = refl
+kept_told m (Some k) l = sym (length-take-le k.len m l)
 
 module _ (r : Receiver) (t : Stamp) (tp m : List ℕ) (size : 16 ≤ r.size) (whole : length tp ≡ r.size) (full : length m ≡ r.limit) where
   shows : (s : Stage) (at : ℕ) (w : Walk) (a : Said) → Sound (length m) (length tp) w
@@ -94,34 +93,34 @@ module _ (r : Receiver) (t : Stamp) (tp m : List ℕ) (size : 16 ≤ r.size) (wh
       → Gives (ordinary_call r t p) (step_with r Plain w (F.Notice n) (none_of w.began)) tp m
   unfolding stepped shown
   notice_by n w p e s = record {
-    same = shows Plain w.at w (says (F.Notice n) (some n) w.began) s ∙ ap (ordinary_call r t) e;
+    same = shows Plain w.at w (says (F.Notice n) (Some n) w.began) s ∙ ap (ordinary_call r t) e;
     able = record { size = size; walk = rw (full, whole) at s; stage = omega arith };
   }
 
   -- 12 and 13 leave reading at the offset
   pub lose_gives : (at n i : ℕ) (g : Place) → at + n ≤ length tp → shown (lose_of (at + n) (length tp) i g) m ≡ set_out (length m) t (walk_to r at) n tp m
-      → Gives (set_call r t at n tp m) (step_of r Plain (at + n) (upon_of (at + n) (length tp)) Empty (F.Notice i) g) tp m
+      → Gives (set_call r t at n tp m) (step_of r Plain (at + n) (upon_of (at + n) (length tp)) None (F.Notice i) g) tp m
   unfolding set_out stepped
   lose_gives at n i g b e =
       let p = upon_of (at + n) (length tp) in
       let x = notice_by i (lose_of (at + n) (length tp) i g).walk (set_out (length m) t (walk_to r at) n tp m) e
-      (record { at = b; phase = upon_fine (length m) (at + n) (length tp) Empty (omega arith) }) in
+      (record { at = b; phase = upon_fine (length m) (at + n) (length tp) None (omega arith) }) in
       let y = upon_any r.walk.began g (at + n) (length tp) in
       let v = upon_todo r.walk.began (at + n) (length tp) ∙ sym (upon_todo g (at + n) (length tp)) in
       record {
-        same = ap (λ (f : Frame wire). leave r Plain (at + n) f (todo_of r.walk.began p) free 0 (says (F.Notice i) (some i) g) m) y
-            ∙ ap (λ (es : List (Event wire)). leave r Plain (at + n) (frame_of g p) es free 0 (says (F.Notice i) (some i) g) m) v
+        same = ap (λ (f : Frame wire). leave r Plain (at + n) f (todo_of r.walk.began p) free 0 (says (F.Notice i) (Some i) g) m) y
+            ∙ ap (λ (es : List (Event wire)). leave r Plain (at + n) (frame_of g p) es free 0 (says (F.Notice i) (Some i) g) m) v
             ∙ x.same;
         able = record { size = size; walk = record { at = x.able.walk.at; phase = x.able.walk.phase }; stage = omega arith };
       }
 
   tell_by : (g : Gain) (w : Walk) (p : Pulled wire) → shown (record { walk = w; gain = g }) m ≡ p → Sound (length m) (length tp) w → Gained (length m) g
-      → (p.find ≡ none → p.todo ≡ []) → Gives (ordinary_call r t p) (tell_of g r t w) tp m
+      → (p.find ≡ None → p.todo ≡ []) → Gives (ordinary_call r t p) (tell_of g r t w) tp m
   unfolding stepped shown
   tell_by G.Nothing w p e s d q =
       let s' : Sound r.limit r.size w = rw (full, whole) at s in
       record {
-        same = shows Fresh 0 w (says F.Nothing none (start_of t)) s ∙ ap (ordinary_call r t) e;
+        same = shows Fresh 0 w (says F.Nothing None (start_of t)) s ∙ ap (ordinary_call r t) e;
         able = record {
           size = size;
           walk = record { at = omega arith; phase = s'.phase };
@@ -137,16 +136,16 @@ module _ (r : Receiver) (t : Stamp) (tp m : List ℕ) (size : 16 ≤ r.size) (wh
   }
 
   pub drop_gives : (n : ℕ) (g : Place) (at : ℕ) → at ≤ length tp
-      → Gives (start_call r t at (dropped wire n g (placed t at (drop at tp))) tp m) (step_of r Plain (length tp) Lost Empty (F.Notice n) g) tp m
+      → Gives (start_call r t at (dropped wire n g (placed t at (drop at tp))) tp m) (step_of r Plain (length tp) Lost None (F.Notice n) g) tp m
   unfolding stepped
   drop_gives n g at l =
       let e : length tp ≡ at + length (placed t at (drop at tp)) = omega (arith, length-drop at tp, length_placed t at (drop at tp)) in
       record {
-        same = ap (λ (i : ℕ). leave r Plain i lost [] free 0 (says (F.Notice n) (some n) g) m) e;
+        same = ap (λ (i : ℕ). leave r Plain i lost [] free 0 (says (F.Notice n) (Some n) g) m) e;
         able = record { size = size; walk = record { at = omega arith; phase = omega arith }; stage = omega arith };
       }
 
-  pub gone_gives : (n : ℕ) → Gives (gone r t n m) (step_of r Fresh 0 Lost Empty (F.Notice n) (start_of t)) tp m
+  pub gone_gives : (n : ℕ) → Gives (gone r t n m) (step_of r Fresh 0 Lost None (F.Notice n) (start_of t)) tp m
   unfolding stepped
   gone_gives n = record { same = refl; able = record { size = size; walk = record { at = omega arith; phase = omega arith }; stage = omega arith } }
 
@@ -164,7 +163,7 @@ module _ (r : Receiver) (t : Stamp) (tp m : List ℕ) (size : 16 ≤ r.size) (wh
 
 -- with the room of the call's entry, m₀
 pub tell_gives : (r : Receiver) (t : Stamp) (tp m m₀ : List ℕ) → 16 ≤ r.size → length tp ≡ r.size → length m₀ ≡ r.limit → (a : Answer) (p : Pulled wire)
-    → shown a m ≡ p → Sound (length m₀) (length tp) a.walk → Gained (length m₀) a.gain → (p.find ≡ none → p.todo ≡ [])
+    → shown a m ≡ p → Sound (length m₀) (length tp) a.walk → Gained (length m₀) a.gain → (p.find ≡ None → p.todo ≡ [])
     → length m ≡ length m₀ → Gives (ordinary_call r t p) (tell_of a.gain r t a.walk) tp m
 tell_gives r t tp m m₀ size whole full a p e s d q same =
     tell_by r t tp m size whole (same ∙ full) a.gain a.walk p e

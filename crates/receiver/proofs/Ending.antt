@@ -2,13 +2,13 @@
 -- Assumes nothing.
 use mathlib.Core.Path.{refl, ◌≡◌}
 use mathlib.Core.Bool.{Bool, cond, false, true}
-use mathlib.Core.Option.{Option, none, some}
 use mathlib.Core.List.{List}
 use Prim.Native.Nat.{suc, zero, ℕ, ◌%◌, ◌+◌, ◌-◌, ◌≤◌}
 use native.Mathlib.Omega.{arith}
 use lib.Dec.{eqb, leb}
 use lib.ListN.{drop, get_or, length, take}
 use borrow.Author.Tests.{eq-eqb, ne_eqb}
+use Rattle.std.specs.Prelude.{None, Some, Option}
 use Rattle.digits.specs.Digits.{number}
 use Rattle.wire.specs.Reading.{stream_of, tp_number_in, version_of}
 use Rattle.wire.specs.declared.Header.{Header}
@@ -18,8 +18,6 @@ use Rattle.receiver.specs.declared.Stage.{Stage}
 use Rattle.receiver.specs.declared.Stamp.{Stamp}
 use Rattle.receiver.specs.declared.kind.Kind.{Kind}
 use Rattle.receiver.specs.declared.kind.Kind.TheVariants.{Complete, Fill, First, Last, Middle, Reserved}
-use Rattle.receiver.specs.declared.low.Llep.{Llep}
-use Rattle.receiver.specs.declared.low.Llep.TheVariants.{Broken, Whole}
 use Rattle.receiver.specs.declared.low.Lows.{Lows}
 use Rattle.receiver.specs.declared.stages.Stamps.{Stamps}
 use Rattle.receiver.specs.Call.{Gave, call_as, call_of, counted_of, data_of, due_call, first_call, gone, low_call, ordinary_by, payload_call, stage_call, stamps_of, start_call, unchanged, walk_to, word_call}
@@ -93,9 +91,9 @@ passed_goes First h m at z go l ih = omega arith
 passed_goes Middle h m at z go l ih = omega arith
 passed_goes Last h m at z go l ih = omega arith
 
-one_goes : (tp : List ℕ) (l : Llep) (at : ℕ) (go : ℕ → Lows) → llep (drop at tp) ≡ l → ((i : ℕ) → OnLows (length tp) (go i)) → OnLows (length tp) (and_then (one_of l at) go)
-one_goes tp Broken at go q ih = omega arith
-one_goes tp (Whole h m) at go q ih = passed_goes (kind_of h) h m at (length tp) go (inside_at tp at h m q) ih
+one_goes : (tp : List ℕ) (l : Option (Header × Bool)) (at : ℕ) (go : ℕ → Lows) → llep (drop at tp) ≡ l → ((i : ℕ) → OnLows (length tp) (go i)) → OnLows (length tp) (and_then (one_of l at) go)
+one_goes tp None at go q ih = omega arith
+one_goes tp (Some (h, m)) at go q ih = passed_goes (kind_of h) h m at (length tp) go (inside_at tp at h m q) ih
 
 lows_goes : (k : ℕ) (tp : List ℕ) (at : ℕ) → OnLows (length tp) (lows k tp at)
 unfolding lows
@@ -127,10 +125,10 @@ on_stage false o e = let z : ◌≡◌ {A = ℕ} 0 1 = cc in omega arith
 -- in a TP of this stamp
 module _ (r : Receiver) (t : Stamp) (tp m : List ℕ) where
   plain_tells : (x : Option (Finding wire)) (p : Pulled wire) → LateFind x → Tells tp (ordinary_by x r t p)
-  plain_tells none p l = record { over = λ e. refl; ended = λ e. omega arith; within = omega arith; numbered = omega arith }
-  plain_tells (some (notice n g)) p l = record { over = λ e. absurd (omega arith); ended = λ e. absurd (not_fresh e); within = omega arith; numbered = omega arith }
-  plain_tells (some (low c d)) p l = absurd (omega arith)
-  plain_tells (some (ordinary c d)) p l = record { over = λ e. absurd (omega arith); ended = λ e. absurd (not_fresh e); within = refl; numbered = omega arith }
+  plain_tells None p l = record { over = λ e. refl; ended = λ e. omega arith; within = omega arith; numbered = omega arith }
+  plain_tells (Some (notice n g)) p l = record { over = λ e. absurd (omega arith); ended = λ e. absurd (not_fresh e); within = omega arith; numbered = omega arith }
+  plain_tells (Some (low c d)) p l = absurd (omega arith)
+  plain_tells (Some (ordinary c d)) p l = record { over = λ e. absurd (omega arith); ended = λ e. absurd (not_fresh e); within = refl; numbered = omega arith }
 
   start_tells : (at : ℕ) (x : Start wire) → AllLate x.told → Tells tp (start_call r t at x tp m)
   start_tells at x l =
@@ -163,8 +161,8 @@ module _ (r : Receiver) (t : Stamp) (tp m : List ℕ) where
   gone_tells n a b = record { over = λ e. refl; ended = λ e. (a, b); within = omega arith; numbered = a }
 
   begun_tells : (o : Option ℕ) → Tells tp (word_call o r t tp m)
-  begun_tells none = gone_tells 9 (omega arith) (omega arith)
-  begun_tells (some w) = payload_call_tells (leb 2048 w) (w % 2048)
+  begun_tells None = gone_tells 9 (omega arith) (omega arith)
+  begun_tells (Some w) = payload_call_tells (leb 2048 w) (w % 2048)
 
   still_tells : (n : ℕ) → 6 ≤ n → n ≤ 9 → r.stage ≡ S.Fresh → Tells tp (unchanged r t (F.Notice n) n m)
   still_tells n a b e = record { over = λ z. e; ended = λ z. (a, b); within = omega arith; numbered = a }

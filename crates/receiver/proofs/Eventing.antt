@@ -2,7 +2,6 @@
 -- Assumes nothing.
 use mathlib.Core.Path.{ap, refl, subst, sym, ◌∙◌, ◌≡◌}
 use mathlib.Core.Bool.{Bool, cond, false, true}
-use mathlib.Core.Option.{Option}
 use mathlib.Core.List.{List, [], ◌++◌, ◌∷◌}
 use Prim.Native.Nat.{ℕ, ◌+◌, ◌-◌, ◌<◌, ◌≤◌, min}
 use native.Mathlib.Omega.{arith}
@@ -10,6 +9,7 @@ use lib.Dec.{ltb}
 use lib.ListN.{drop, length, length-drop, take}
 use lib.Seq.{get_or-drop, length-take-le, take_all}
 use borrow.Author.Tests.{ltb-false, ltb-true}
+use Rattle.std.specs.Prelude.{Option}
 use Rattle.digits.specs.Digits.{digits, number}
 use Rattle.wire.specs.Reading.{header_in}
 use Rattle.wire.specs.declared.Header.{Header}
@@ -36,7 +36,7 @@ use Rattle.receiver.proofs.Run.{grows}
 use Rattle.receiver.proofs.Seeing.{heads_saw, heads_whole_saw, lost_saw, saw, whole_at}
 use Rattle.receiver.proofs.Bringing.{Brings, cut_brings, judged_brings, read_brings, whole_brings}
 
-module _ (cap : ℕ) (s : Stamp) (tp m : List ℕ) (full : length m ≡ cap) (bytes : Bytes tp) (at : ℕ) (g : Place) (k : Kept) (l : at ≤ length tp) where
+module _ (cap : ℕ) (s : Stamp) (tp m : List ℕ) (full : length m ≡ cap) (bytes : Bytes tp) (at : ℕ) (g : Place) (k : Option Kept) (l : at ≤ length tp) where
   abbrev rest : List ℕ
   rest = drop at tp
 

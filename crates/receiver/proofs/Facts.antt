@@ -3,11 +3,11 @@
 use Prim.Native.Nat.{ℕ, zero, suc, ◌+◌}
 use mathlib.Core.Path.{◌≡◌, refl, sym, ap, subst}
 use mathlib.Core.Bool.{Bool, true, false, cond}
-use mathlib.Core.Option.{Option, none, some}
 use mathlib.Core.List.{List, [], ◌∷◌, ◌++◌}
 use native.Mathlib.Omega.{arith}
 use lib.Dec.{eqb, leb}
 use lib.ListN.{length, drop}
+use Rattle.std.specs.Prelude.{None, Option, Some}
 use Rattle.wire.specs.declared.Header.{Header}
 use Rattle.wire.specs.Reading.{header_of}
 use Rattle.receiver.specs.declared.kind.Kind.{Kind}
@@ -21,13 +21,13 @@ use Rattle.receiver.specs.Low.{Ep, ep_at, ep_if, Tag, wire}
 -- what a code keeps to, so that packets have places: a header has its first byte's, a packet its first header's
 pub record Placed (C : Code) : Type 0 where
   pub from : C.T → C.S
-  pub place_is : (p : C.S) (ks : List C.K) (h : C.H) → C.decode p ks ≡ some h → C.place h ≡ p
+  pub place_is : (p : C.S) (ks : List C.K) (h : C.H) → C.decode p ks ≡ Some h → C.place h ≡ p
   pub begin_is : (h : C.H) → from (C.begin h) ≡ C.place h
   pub join_is : (t : C.T) (h : C.H) → from (C.join t h) ≡ from t
 
-pub placed_ep : (p : Place) (o : Option Header) (h : Ep) → ep_if p o ≡ some h → h.at ≡ p
-placed_ep p none h e = cc
-placed_ep p (some x) h e = let z : ep_at p x ≡ h = cc in sym (ap (λ (q : Ep). q.at) z)
+pub placed_ep : (p : Place) (o : Option Header) (h : Ep) → ep_if p o ≡ Some h → h.at ≡ p
+placed_ep p None h e = cc
+placed_ep p (Some x) h e = let z : ep_at p x ≡ h = cc in sym (ap (λ (q : Ep). q.at) z)
 
 -- a packet's place is that of its first EP
 abbrev pub wired : Placed wire
@@ -93,8 +93,8 @@ module _ (C : Code) (Q : C.S → Type 0) where
 
   module _ (P : Placed C) where
     in_whole : (p : C.S) (ks : List C.K) (o : Option C.H) → C.decode p ks ≡ o → Q p → InFrame (whole C p o).0 × InEvents (whole C p o).1
-    in_whole p ks none e q = (tt, (tt, tt))
-    in_whole p ks (some h) e q =
+    in_whole p ks None e q = (tt, (tt, tt))
+    in_whole p ks (Some h) e q =
         let a : Q (C.place h) = subst Q (sym (P.place_is p ks h e)) q in
         (in_within h (C.size h) a, (tt, (a, in_ending h (C.size h))))
 
@@ -125,7 +125,7 @@ module _ (C : Code) (Q : C.S → Type 0) where
     InHeld free = Unit {0}
     InHeld (held t d) = Q (P.from t)
 
-    in_cond : (b : Bool) (t : C.T) (d : List C.K) (f : Option (Finding C)) → Q (P.from t) → InHeld (cond {A = Took C} b (held t d, none) (free, f)).0
+    in_cond : (b : Bool) (t : C.T) (d : List C.K) (f : Option (Finding C)) → Q (P.from t) → InHeld (cond {A = Took C} b (held t d, None) (free, f)).0
     in_cond true t d f q = q
     in_cond false t d f q = tt
 
@@ -135,7 +135,7 @@ module _ (C : Code) (Q : C.S → Type 0) where
 
     in_goes_on : (h : C.H) (s : Held C) → InHeld s → InHeld (goes_on C h s).0
     in_goes_on h free q = tt
-    in_goes_on h (held t d) q = in_cond (eqb (C.sort t) (C.content h)) t d (some (notice 14 (C.place h))) q
+    in_goes_on h (held t d) q = in_cond (eqb (C.sort t) (C.content h)) t d (Some (notice 14 (C.place h))) q
 
     in_meets : (k : Kind) (h : C.H) (s : Held C) → InHeld s → InHeld (meets C k h s).0
     in_meets Fill h s q = in_broken h s
@@ -163,7 +163,7 @@ module _ (C : Code) (Q : C.S → Type 0) where
 
     module _ (room : ℕ) where
       in_fits : (h : C.H) (t : C.T) (d : List C.K) → Q (P.from t) → InHeld (fits C room h t d).0
-      in_fits h t d q = in_cond (leb (length d + C.size h) room) t d (some (notice 15 (C.place h))) q
+      in_fits h t d q = in_cond (leb (length d + C.size h) room) t d (Some (notice 15 (C.place h))) q
 
       in_further : (h : C.H) (s : Held C) → InHeld s → InHeld (further C room h s).0
       in_further h free q = tt
@@ -211,8 +211,8 @@ module _ (C : Code) (Q : C.S → Type 0) where
 
       in_judge : (o : Option ℕ) (p : C.S) (f : Frame C) (s : Held C) (n : ℕ) (bs : List C.B) → InFrame f → InHeld s → InBytes bs
           → Leaves s (read C (judge C o p f n bs) bs)
-      in_judge none p f s n bs a q r = in_resumed (judge C none p f n bs).told s n bs (tt, tt) q r
-      in_judge (some m) p f s n bs a q r = in_agree (eqb m n) p f s n bs a q r
+      in_judge None p f s n bs a q r = in_resumed (judge C None p f n bs).told s n bs (tt, tt) q r
+      in_judge (Some m) p f s n bs a q r = in_agree (eqb m n) p f s n bs a q r
 
       pub in_next : (w : Way C) (f : Frame C) (s : Held C) → InWay w → InFrame f → InHeld s
           → InFrame (by_way C f w).0 × InHeld (holding C room s (by_way C f w).1)

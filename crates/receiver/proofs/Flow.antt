@@ -1,11 +1,11 @@
 -- In which order events come, whatever TPs and gaps there are: a header whole, the way into its EP, its data bytes, all of
 -- them, its end; and a loss of step at any place. Assumes nothing.
 use mathlib.Core.Bool.{Bool, false, true}
-use mathlib.Core.Option.{Option, none, some}
 use mathlib.Core.List.{List, [], ◌++◌, ◌∷◌}
 use Prim.Native.Nat.{suc, zero, ℕ}
 use lib.Dec.{eqb}
 use lib.ListN.{drop}
+use Rattle.std.specs.Prelude.{None, Option, Some}
 use Rattle.wire.specs.Reading.{header_of}
 use Rattle.receiver.specs.declared.Place.{Place}
 use Rattle.receiver.specs.declared.stages.Stamps.{Stamps}
@@ -47,8 +47,8 @@ ends_flow h zero = next_to closes still
 ends_flow h (suc k) = still
 
 whole_flow : (g : Place) (o : Option Ep) → Flow apart (whole wire g o).1 (spot_of (whole wire g o).0)
-whole_flow g none = next_to loses still
-whole_flow g (some h) = next_to opens (next_to enters (ends_flow h h.header.size))
+whole_flow g None = next_to loses still
+whole_flow g (Some h) = next_to opens (next_to enters (ends_flow h h.header.size))
 
 step_flow : (f : Frame wire) (b : Place × ℕ) → Flow (spot_of f) (step wire f b).1 (spot_of (step wire f b).0)
 step_flow lost b = still
@@ -70,8 +70,8 @@ agree_flow true g f n bs = still
 agree_flow false g f n bs = resume_flow (drop n bs) (next_to loses still)
 
 judge_flow : (o : Option ℕ) (g : Place) (f : Frame wire) (n : ℕ) (bs : List (Place × ℕ)) → Flow (spot_of f) (judge wire o g f n bs).told (spot_of (judge wire o g f n bs).frame)
-judge_flow none g f n bs = resume_flow (drop n bs) (next_to loses still)
-judge_flow (some m) g f n bs = agree_flow (eqb m n) g f n bs
+judge_flow None g f n bs = resume_flow (drop n bs) (next_to loses still)
+judge_flow (Some m) g f n bs = agree_flow (eqb m n) g f n bs
 
 start_flow : (g : Place) (f : Frame wire) (n : ℕ) (bs : List (Place × ℕ)) → Flow (spot_of f) (start wire g f n bs).told (spot_of (start wire g f n bs).frame)
 start_flow g lost n bs = resume_flow (drop n bs) still

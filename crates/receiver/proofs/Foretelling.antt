@@ -1,7 +1,6 @@
 -- The forecast in runs is the forecast byte by byte, and what it decides.
 use mathlib.Core.Path.{ap, refl, sym, ◌∙◌, ◌≡◌}
 use mathlib.Core.Bool.{Bool, cond, false, true}
-use mathlib.Core.Option.{Option, none, some}
 use mathlib.Core.List.{List, [], append_assoc, ◌++◌, ◌∷◌}
 use Prim.Native.Nat.{min, suc, zero, ℕ, ◌+◌, ◌-◌, ◌<◌, ◌^◌, ◌≤◌}
 use native.Mathlib.Omega.{arith}
@@ -9,8 +8,9 @@ use lib.Dec.{eqb, ltb}
 use lib.ListN.{drop, length, length-append, length-drop, take, take-append-drop}
 use lib.Seq.{length-take-le}
 use borrow.Author.Tests.{ltb-false, ltb-true, ne_eqb}
+use Rattle.std.specs.Prelude.{None, Option, Some}
 use Rattle.digits.specs.Digits.{digits, number}
-use Rattle.wire.specs.Reading.{header_in, header_of, read_of}
+use Rattle.wire.specs.Reading.{header_in, header_of}
 use Rattle.wire.specs.declared.Header.{Header}
 use Rattle.receiver.specs.declared.Place.{Place}
 use Rattle.receiver.specs.declared.Stamp.{Stamp}
@@ -27,34 +27,33 @@ use Rattle.receiver.specs.State.{Settled, headed}
 use Rattle.receiver.proofs.Bodies.{decoded}
 use Rattle.receiver.proofs.Placing.{length_placed, placed_append}
 use Rattle.receiver.proofs.Heading.{headed_last, headed_step, length_digits}
-use Rattle.wire.specs.declared.Read.TheVariants as R
 
-pub bad_fore : (n rest : ℕ) (o : Option Header) → read_of o ≡ R.Beyond → Bad ≡ behind_of o n rest
-bad_fore n rest none e = refl
-bad_fore n rest (some h) e = cc
+pub bad_fore : (n rest : ℕ) (o : Option Header) → o ≡ None → Bad ≡ behind_of o n rest
+bad_fore n rest None e = refl
+bad_fore n rest (Some h) e = cc
 
-pub good_fore : (n rest : ℕ) (h : Header) (o : Option Header) → read_of o ≡ R.Whole h → At (n + min h.size (rest - n)) ≡ behind_of o n rest
-good_fore n rest h none e = cc
-good_fore n rest h (some x) e = let q : h ≡ x = cc in ap (λ (y : Header). At (n + min y.size (rest - n))) q
+pub good_fore : (n rest : ℕ) (h : Header) (o : Option Header) → o ≡ Some h → At (n + min h.size (rest - n)) ≡ behind_of o n rest
+good_fore n rest h None e = cc
+good_fore n rest h (Some x) e = let q : h ≡ x = cc in ap (λ (y : Header). At (n + min y.size (rest - n))) q
 
 -- the forecast, in runs
 
-fore_idle : (bs : List (Place × ℕ)) → foretold wire idle bs ≡ some 0
+fore_idle : (bs : List (Place × ℕ)) → foretold wire idle bs ≡ Some 0
 fore_idle [] = refl
 fore_idle (b ∷ bs) = refl
 
-fore_lost : (bs : List (Place × ℕ)) → foretold wire lost bs ≡ none
+fore_lost : (bs : List (Place × ℕ)) → foretold wire lost bs ≡ None
 fore_lost [] = refl
 fore_lost (b ∷ bs) = refl
 
-pub fore_within : (h : Ep) (n : ℕ) (bs : List (Place × ℕ)) → foretold wire (within wire h n) bs ≡ some (min n (length bs))
-fore_within h zero bs = fore_idle bs ∙ ap some (omega arith)
-fore_within h (suc n) [] = ap some (omega arith)
+pub fore_within : (h : Ep) (n : ℕ) (bs : List (Place × ℕ)) → foretold wire (within wire h n) bs ≡ Some (min n (length bs))
+fore_within h zero bs = fore_idle bs ∙ ap Some (omega arith)
+fore_within h (suc n) [] = ap Some (omega arith)
 fore_within h (suc n) (b ∷ bs) =
     let e : suc (min n (length bs)) ≡ min (suc n) (suc (length bs)) = omega arith in
-    ap (later wire) (fore_within h n bs) ∙ ap some e
+    ap (later wire) (fore_within h n bs) ∙ ap Some e
 
-fore_short : (g : Place) (x : ℕ) (xs : List ℕ) (ds : List (Place × ℕ)) → suc (length xs) + length ds ≤ 5 → foretold wire (headed g (x ∷ xs)) ds ≡ some (length ds)
+fore_short : (g : Place) (x : ℕ) (xs : List ℕ) (ds : List (Place × ℕ)) → suc (length xs) + length ds ≤ 5 → foretold wire (headed g (x ∷ xs)) ds ≡ Some (length ds)
 fore_short g x xs [] l = refl
 fore_short g x xs (d ∷ ds) l =
     ap (λ (o : Out wire). later wire (foretold wire o.0 ds)) (headed_step g (x ∷ xs) d.0 d.1 (omega arith))
@@ -64,11 +63,11 @@ abbrev laters : ℕ → Option ℕ → Option ℕ
 laters zero o = o
 laters (suc n) o = later wire (laters n o)
 
-laters_some : (n k : ℕ) → laters n (some k) ≡ some (n + k)
-laters_some zero k = ap some (omega arith)
-laters_some (suc n) k = ap (later wire) (laters_some n k) ∙ ap some (omega arith)
+laters_some : (n k : ℕ) → laters n (Some k) ≡ Some (n + k)
+laters_some zero k = ap Some (omega arith)
+laters_some (suc n) k = ap (later wire) (laters_some n k) ∙ ap Some (omega arith)
 
-laters_none : (n : ℕ) → laters n none ≡ none
+laters_none : (n : ℕ) → laters n None ≡ None
 laters_none zero = refl
 laters_none (suc n) = ap (later wire) (laters_none n)
 
@@ -81,8 +80,8 @@ fore_whole g t i x xs d (y ∷ ds) bs l =
     ∙ ap (λ (l : List ℕ). laters (suc (length ds)) (foretold wire (whole wire g (ep_if g (header_of (x ∷ l)))).0 bs)) (append_assoc xs (d ∷ []) (y ∷ ds)))
 
 fore_behind : (g : Place) (o : Option Header) (n r : ℕ) (bs : List (Place × ℕ)) → r - n ≡ length bs → foretells (laters n (foretold wire (whole wire g (ep_if g o)).0 bs)) ≡ behind_of o n r
-fore_behind g none n r bs e = ap (λ (o : Option ℕ). foretells (laters n o)) (fore_lost bs) ∙ ap foretells (laters_none n)
-fore_behind g (some h) n r bs e =
+fore_behind g None n r bs e = ap (λ (o : Option ℕ). foretells (laters n o)) (fore_lost bs) ∙ ap foretells (laters_none n)
+fore_behind g (Some h) n r bs e =
     ap (λ (o : Option ℕ). foretells (laters n o)) (fore_within (ep_at g h) h.size bs) ∙ ap foretells (laters_some n (min h.size (length bs)))
     ∙ ap (λ (k : ℕ). At (n + min h.size k)) (sym e)
 

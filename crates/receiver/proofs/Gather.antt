@@ -1,6 +1,5 @@
 -- Numbers of bytes, and stretches of a slice. Assumes nothing.
 use mathlib.Core.Path.{ap, refl, subst, sym, ◌∙◌, ◌≡◌}
-use mathlib.Core.Option.{Option, none, some}
 use mathlib.Core.List.{List, [], ◌++◌, ◌∷◌}
 use Prim.Native.Nat.{min, suc, ℕ, ◌*◌, ◌+◌, ◌-◌, ◌<◌, ◌^◌, ◌≤◌}
 use native.Mathlib.Decide.{dec_le}
@@ -9,26 +8,25 @@ use native.Mathlib.Numerals.{add-one}
 use native.Mathlib.Omega.{arith}
 use lib.ListN.{drop, drop_of_length-le, get_or, length, length-drop, take}
 use lib.Seq.{drop-cons, get_or-drop, get_or-take, length-take-le, paste, take_all, take-take}
+use Rattle.std.specs.Prelude.{None, Option, Some}
 use Rattle.digits.specs.Digits.{number}
 use Rattle.queue.specs.Ring.{copied}
-use Rattle.wire.specs.Reading.{read_of}
 use Rattle.wire.specs.declared.Header.{Header}
 use Rattle.receiver.specs.declared.Place.{Place}
 use Rattle.receiver.specs.declared.walk.Gain.TheVariants.{Notice}
 use Rattle.receiver.specs.declared.walk.Kept.{Kept}
-use Rattle.receiver.specs.declared.walk.Kept.TheVariants.{Empty, Of}
 use Rattle.receiver.specs.declared.walk.Phase.TheVariants.{Lost}
 use Rattle.receiver.specs.Turns.{opened_of, stops, whole_of}
 use Rattle.receiver.specs.InWalk.{pasted}
-use Rattle.wire.specs.declared.Read.TheVariants as R
+use Rattle.receiver.specs.State.{kept_by}
 
-pub beyond_read : (at : ℕ) (g : Place) (k : Kept) (cap : ℕ) (o : Option Header) → read_of o ≡ R.Beyond → stops at Lost g Empty (Notice 12) ≡ whole_of at o g k cap
-beyond_read at g k cap none e = refl
-beyond_read at g k cap (some h) e = cc
+pub beyond_read : (at : ℕ) (g : Place) (k : Option Kept) (cap : ℕ) (o : Option Header) → o ≡ None → stops at Lost g None (Notice 12) ≡ whole_of at o g k cap
+beyond_read at g k cap None e = refl
+beyond_read at g k cap (Some h) e = cc
 
-pub whole_read : (at : ℕ) (g : Place) (k : Kept) (cap : ℕ) (h : Header) (o : Option Header) → read_of o ≡ R.Whole h → opened_of at h g k cap ≡ whole_of at o g k cap
-whole_read at g k cap h none e = cc
-whole_read at g k cap h (some x) e = let q : h ≡ x = cc in ap (λ (y : Header). opened_of at y g k cap) q
+pub whole_read : (at : ℕ) (g : Place) (k : Option Kept) (cap : ℕ) (h : Header) (o : Option Header) → o ≡ Some h → opened_of at h g k cap ≡ whole_of at o g k cap
+whole_read at g k cap h None e = cc
+whole_read at g k cap h (Some x) e = let q : h ≡ x = cc in ap (λ (y : Header). opened_of at y g k cap) q
 
 -- the number of some bytes
 
@@ -88,7 +86,7 @@ three_of (a ∷ b ∷ []) l = absurd (omega arith)
 three_of (a ∷ b ∷ c ∷ []) l = absurd (omega arith)
 three_of (a ∷ b ∷ c ∷ d ∷ tp) l = refl
 
-pub put_is : (tp : List ℕ) (at n c sum : ℕ) (b : Place) (l : ℕ) (k : Kept) (m m' : List ℕ) → k ≡ Of c sum b l → at + n ≤ length tp → l + n ≤ length m
+pub put_is : (tp : List ℕ) (at n c sum : ℕ) (b : Place) (l : ℕ) (k : Option Kept) (m m' : List ℕ) → k ≡ kept_by c sum b l → at + n ≤ length tp → l + n ≤ length m
     → m' ≡ copied m l (take (at + n - at) (drop at tp)) → m' ≡ pasted k m (drop at tp) n
 put_is tp at n c sum b l k m m' e h room g =
     let q : at + n - at ≡ n = omega arith in

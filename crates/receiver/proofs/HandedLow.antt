@@ -2,12 +2,12 @@
 -- header and its end byte read within repair, and exactly that stretch; and its place is that LLEP's. Assumes nothing.
 use mathlib.Core.Path.{ap, refl, subst, sym, ◌∙◌, ◌≡◌}
 use mathlib.Core.Bool.{Bool, cond, false, true}
-use mathlib.Core.Option.{Option, none, some}
 use mathlib.Core.List.{List}
 use Prim.Native.Nat.{suc, ℕ, ◌%◌, ◌+◌, ◌-◌, ◌≤◌}
 use native.Mathlib.Omega.{arith}
 use lib.Dec.{eqb, leb}
 use lib.ListN.{drop, get_or, length, take}
+use Rattle.std.specs.Prelude.{None, Option, Some}
 use Rattle.digits.specs.Digits.{number}
 use Rattle.wire.specs.Reading.{stream_of, tp_number_in, version_of}
 use Rattle.receiver.specs.declared.Find.{Find}
@@ -56,10 +56,10 @@ module _ (r : Receiver) (t : Stamp) (tp m : List ℕ) where
   Ok g = Placed t tp g.said.find g.said.place
 
   plain_ok : (x : Option (Finding wire)) (p : Pulled wire) → LateFind x → Ok (ordinary_by x r t p)
-  plain_ok none p l = omega arith
-  plain_ok (some (notice n g)) p l = omega arith
-  plain_ok (some (low c d)) p l = absurd (omega arith)
-  plain_ok (some (ordinary c d)) p l = omega arith
+  plain_ok None p l = omega arith
+  plain_ok (Some (notice n g)) p l = omega arith
+  plain_ok (Some (low c d)) p l = absurd (omega arith)
+  plain_ok (Some (ordinary c d)) p l = omega arith
 
   start_ok : (at : ℕ) (x : Start wire) → AllLate x.told → Ok (start_call r t at x tp m)
   start_ok at x l =
@@ -86,8 +86,8 @@ module _ (r : Receiver) (t : Stamp) (tp m : List ℕ) where
   payload_call_ok false o = due_ok o 4
 
   begun_ok : (o : Option ℕ) → Ok (word_call o r t tp m)
-  begun_ok none = omega arith
-  begun_ok (some w) = payload_call_ok (leb 2048 w) (w % 2048)
+  begun_ok None = omega arith
+  begun_ok (Some w) = payload_call_ok (leb 2048 w) (w % 2048)
 
 -- a call by these stamps, which counts the TP
 module _ (r : Receiver) (n : Stamps) (tp m : List ℕ) where

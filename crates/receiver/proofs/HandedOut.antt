@@ -3,12 +3,12 @@
 use mathlib.Core.Path.{ap, refl, subst, sym, ◌∙◌, ◌≡◌}
 use mathlib.Core.Logic.{inl, inr, ◌⊎◌}
 use mathlib.Core.Bool.{Bool, cond, false, true}
-use mathlib.Core.Option.{Option, none, some}
 use mathlib.Core.List.{List, [], append_assoc, ◌++◌, ◌∷◌}
 use Prim.Native.Nat.{suc, zero, ℕ, ◌%◌, ◌+◌, ◌≤◌}
 use native.Mathlib.Omega.{arith}
 use lib.Dec.{eqb, leb}
 use lib.ListN.{drop, get_or, length, take}
+use Rattle.std.specs.Prelude.{Some, None, Option}
 use Rattle.digits.specs.Digits.{number}
 use Rattle.wire.specs.Reading.{stream_of, tp_number_in, version_of}
 use Rattle.wire.specs.declared.Header.{Header}
@@ -17,8 +17,6 @@ use Rattle.receiver.specs.declared.Receiver.{Receiver}
 use Rattle.receiver.specs.declared.Stamp.{Stamp}
 use Rattle.receiver.specs.declared.kind.Kind.{Kind}
 use Rattle.receiver.specs.declared.kind.Kind.TheVariants.{Complete, Fill, First, Last, Middle, Reserved}
-use Rattle.receiver.specs.declared.low.Llep.{Llep}
-use Rattle.receiver.specs.declared.low.Llep.TheVariants.{Broken, Whole}
 use Rattle.receiver.specs.declared.stages.Stamps.{Stamps}
 use Rattle.receiver.specs.Call.{OpenedAs}
 use Rattle.receiver.specs.Frame.{Event, Frame, lost}
@@ -31,7 +29,6 @@ use Rattle.receiver.proofs.Listening.{Life, from_opening}
 use Rattle.receiver.proofs.OnePacket.{one_packet}
 use Rattle.receiver.proofs.Packets.{PacketRead}
 use Rattle.receiver.proofs.Rest.{standing}
-use Rattle.receiver.specs.declared.Opened.TheVariants as O
 
 abbrev pub Among : Finding wire → List (Finding wire) → Type 0
 Among x [] = 1 ≤ 0
@@ -79,11 +76,11 @@ given_only First p h bs fs l = l
 given_only Middle p h bs fs l = l
 given_only Last p h bs fs l = l
 
-walked_only : (l : Llep) (t : Stamp) (i : ℕ) (bs : List ℕ) (on : ℕ → List ℕ → Part) → ((j : ℕ) (rest : List ℕ) → LowOnly (on j rest).finds) → LowOnly (walked l t i bs on).finds
-walked_only Broken t i bs on ih = omega arith
-walked_only (Whole h true) t i bs on ih =
+walked_only : (l : Option (Header × Bool)) (t : Stamp) (i : ℕ) (bs : List ℕ) (on : ℕ → List ℕ → Part) → ((j : ℕ) (rest : List ℕ) → LowOnly (on j rest).finds) → LowOnly (walked l t i bs on).finds
+walked_only None t i bs on ih = omega arith
+walked_only (Some (h, true)) t i bs on ih =
     given_only (kind_of h) (place_at t i) h bs (on (i + 7 + h.size) (drop (7 + h.size) bs)).finds (ih (i + 7 + h.size) (drop (7 + h.size) bs))
-walked_only (Whole h false) t i bs on ih = given_only (kind_of h) (place_at t i) h bs [] (omega arith)
+walked_only (Some (h, false)) t i bs on ih = given_only (kind_of h) (place_at t i) h bs [] (omega arith)
 
 walk_only : (k : ℕ) (t : Stamp) (i : ℕ) (bs : List ℕ) → LowOnly (walk k t i bs).finds
 unfolding walk
@@ -96,12 +93,12 @@ part_only true t bs = walk_only (suc (length bs)) t 4 bs
 part_only false t bs = omega arith
 
 behind_only : (p : Part) (b : Option (List ℕ)) (t : Stamp) (o : ℕ) (bs : List ℕ) → LowOnly p.finds → LowOnly (behind p b t o bs).lows
-behind_only p none t o bs l = l
-behind_only p (some rest) t o bs l = l
+behind_only p None t o bs l = l
+behind_only p (Some rest) t o bs l = l
 
 worded_only : (o : Option ℕ) (t : Stamp) (bs : List ℕ) → LowOnly (worded o t bs).lows
-worded_only none t bs = omega arith
-worded_only (some w) t bs =
+worded_only None t bs = omega arith
+worded_only (Some w) t bs =
     behind_only (low_part_if (leb 2048 w) t bs) (low_part_if (leb 2048 w) t bs).behind t (w % 2048) bs (part_only (leb 2048 w) t bs)
 
 brings_only : (s : Setting) (n : Stamps) (tp : List ℕ) → LowOnly (brings s n tp).lows
@@ -133,7 +130,7 @@ module _ (room : ℕ) where
   -- the event that gives a find
   abbrev pub FromEvent : Finding wire → Held wire → List (Event wire) → Type 0
   FromEvent x s es =
-      (es₁ : List (Event wire)) × ((e : Event wire) × ((es₂ : List (Event wire)) × ((es ≡ es₁ ++ e ∷ es₂) × ((take_in wire room (holding wire room s es₁) e).1 ≡ some x))))
+      (es₁ : List (Event wire)) × ((e : Event wire) × ((es₂ : List (Event wire)) × ((es ≡ es₁ ++ e ∷ es₂) × ((take_in wire room (holding wire room s es₁) e).1 ≡ Some x))))
 
   further_on : (x : Finding wire) (s : Held wire) (e : Event wire) (es : List (Event wire)) → FromEvent x (take_in wire room s e).0 es → FromEvent x s (e ∷ es)
   further_on x s e es (es₁, (y, (es₂, (q, g)))) = (e ∷ es₁, (y, (es₂, (ap (λ (l : List (Event wire)). e ∷ l) q, g))))
@@ -143,9 +140,9 @@ module _ (room : ℕ) where
   finds_from x s (e ∷ es) a = further (among_or x (listed wire (take_in wire room s e).1) (finds wire room (take_in wire room s e).0 es) a) (finds_from x (take_in wire room s e).0 es)
     where
       here : (o : Option (Finding wire)) → (take_in wire room s e).1 ≡ o → Among x (listed wire o) → FromEvent x s (e ∷ es)
-      here none q a = absurd (omega arith)
-      here (some y) q (inl z) = ([], (e, (es, (refl, q ∙ ap some (sym z)))))
-      here (some y) q (inr a) = absurd (omega arith)
+      here None q a = absurd (omega arith)
+      here (Some y) q (inl z) = ([], (e, (es, (refl, q ∙ ap Some (sym z)))))
+      here (Some y) q (inr a) = absurd (omega arith)
 
       further : Among x (listed wire (take_in wire room s e).1) ⊎ Among x (finds wire room (take_in wire room s e).0 es)
           → (Among x (finds wire room (take_in wire room s e).0 es) → FromEvent x (take_in wire room s e).0 es) → FromEvent x s (e ∷ es)
@@ -192,7 +189,7 @@ ReadWithin c g d es =
 -- HANDED OUT: whatever the calls hand out as one packet, after an opening, over any TPs and told gaps; the place that it carries is
 -- that of the first of its EPs
 pub handed_out_lem : (size stream : ℕ) (m : List ℕ) (r : Receiver) (t : Tag) (d : List ℕ) {xs : List Input} {fs : List (Finding wire)} {r' : Receiver} {m' : List ℕ}
-    → OpenedAs size stream (length m) (O.Ready r) → Life r m xs fs r' m' → Among (ordinary t d) fs
+    → OpenedAs size stream (length m) (Some r) → Life r m xs fs r' m' → Among (ordinary t d) fs
     → ReadWithin t.content t.at d (events_all (record { size = size; stream = stream; room = length m }) 0 lost xs)
 handed_out_lem size stream m r t d {xs} {fs} {r'} {m'} o l a =
     let s : Setting = record { size = size; stream = stream; room = length m } in

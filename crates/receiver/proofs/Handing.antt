@@ -1,12 +1,12 @@
 -- An EP's end: it joins those before it, or hands out; and the invariant along all events. Assumes nothing.
 use mathlib.Core.Path.{ap, refl, subst, sym, ◌∙◌, ◌≡◌}
 use mathlib.Core.Bool.{Bool, cond, false, true}
-use mathlib.Core.Option.{none, some}
 use mathlib.Core.List.{List, [], append_assoc, append-nil, ◌++◌, ◌∷◌}
 use Prim.Native.Nat.{zero, ℕ, ◌+◌}
 use native.Mathlib.Omega.{arith}
 use lib.Dec.{eqb, leb}
 use lib.ListN.{length}
+use Rattle.std.specs.Prelude.{None, Some}
 use Rattle.receiver.specs.declared.kind.Kind.{Kind}
 use Rattle.receiver.specs.declared.kind.Kind.TheVariants.{Complete, Fill, First, Last, Middle, Reserved}
 use Rattle.receiver.specs.Frame.{Event, closed, entered, opened}
@@ -58,7 +58,7 @@ module _ (room : ℕ) where
       closes_held (lastly b j) x f = omega arith
 
       gives_held : {k : Kind} {d₀ : List ℕ} (t' : Tag) (d' : List ℕ) → Into t h.at es₀ k d₀ → kind_of h.header ≡ k → d ≡ d₀ ++ ds
-          → (finish wire k (held t d)).1 ≡ some (ordinary t' d') → Result t' d'
+          → (finish wire k (held t d)).1 ≡ Some (ordinary t' d') → Result t' d'
       gives_held t' d' (alone y) x f g =
           let p : t ≡ t' = cc in
           let q : d ≡ d' = cc in
@@ -102,23 +102,23 @@ module _ (room : ℕ) where
 
   -- only an EP's end hands out
 
-  no_fits : (b : Bool) (h : L.Ep) (c : Tag) (d : List ℕ) (c' : Tag) (d' : List ℕ) → (cond {A = Took wire} b (held c d, none) (free, some (notice 15 h.at))).1 ≡ some (ordinary c' d') → ⊥
+  no_fits : (b : Bool) (h : L.Ep) (c : Tag) (d : List ℕ) (c' : Tag) (d' : List ℕ) → (cond {A = Took wire} b (held c d, None) (free, Some (notice 15 h.at))).1 ≡ Some (ordinary c' d') → ⊥
   no_fits true h c d c' d' e = let z : ◌≡◌ {A = ℕ} 0 1 = cc in omega arith
   no_fits false h c d c' d' e = let z : ◌≡◌ {A = ℕ} 0 1 = cc in omega arith
 
-  no_broken : (h : L.Ep) (s : Held wire) (c : Tag) (d : List ℕ) → (broken wire h s).1 ≡ some (ordinary c d) → ⊥
+  no_broken : (h : L.Ep) (s : Held wire) (c : Tag) (d : List ℕ) → (broken wire h s).1 ≡ Some (ordinary c d) → ⊥
   no_broken h free c d e = let z : ◌≡◌ {A = ℕ} 0 1 = cc in omega arith
   no_broken h (held x y) c d e = let z : ◌≡◌ {A = ℕ} 0 1 = cc in omega arith
 
-  no_going : (h : L.Ep) (s : Held wire) (c : Tag) (d : List ℕ) → (goes_on wire h s).1 ≡ some (ordinary c d) → ⊥
+  no_going : (h : L.Ep) (s : Held wire) (c : Tag) (d : List ℕ) → (goes_on wire h s).1 ≡ Some (ordinary c d) → ⊥
   no_going h free c d e = let z : ◌≡◌ {A = ℕ} 0 1 = cc in omega arith
   no_going h (held y t) c d e = by (eqb y.content h.header.content) e
     where
-      by : (b : Bool) → (cond {A = Took wire} b (held y t, none) (free, some (notice 14 h.at))).1 ≡ some (ordinary c d) → ⊥
+      by : (b : Bool) → (cond {A = Took wire} b (held y t, None) (free, Some (notice 14 h.at))).1 ≡ Some (ordinary c d) → ⊥
       by true e = let z : ◌≡◌ {A = ℕ} 0 1 = cc in omega arith
       by false e = let z : ◌≡◌ {A = ℕ} 0 1 = cc in omega arith
 
-  no_opening : (k : Kind) (h : L.Ep) (s : Held wire) (c : Tag) (d : List ℕ) → (meets wire k h s).1 ≡ some (ordinary c d) → ⊥
+  no_opening : (k : Kind) (h : L.Ep) (s : Held wire) (c : Tag) (d : List ℕ) → (meets wire k h s).1 ≡ Some (ordinary c d) → ⊥
   no_opening Fill h s c d e = no_broken h s c d e
   no_opening Reserved h s c d e = no_broken h s c d e
   no_opening Complete h s c d e = no_broken h s c d e
@@ -126,11 +126,11 @@ module _ (room : ℕ) where
   no_opening Middle h s c d e = no_going h s c d e
   no_opening Last h s c d e = no_going h s c d e
 
-  no_further : (h : L.Ep) (s : Held wire) (c : Tag) (d : List ℕ) → (further wire room h s).1 ≡ some (ordinary c d) → ⊥
+  no_further : (h : L.Ep) (s : Held wire) (c : Tag) (d : List ℕ) → (further wire room h s).1 ≡ Some (ordinary c d) → ⊥
   no_further h free c d e = let z : ◌≡◌ {A = ℕ} 0 1 = cc in omega arith
   no_further h (held x t) c d e = no_fits (leb (length t + h.header.size) room) h (join_of x h) t c d e
 
-  no_entering : (k : Kind) (h : L.Ep) (s : Held wire) (c : Tag) (d : List ℕ) → (admit wire room k h s).1 ≡ some (ordinary c d) → ⊥
+  no_entering : (k : Kind) (h : L.Ep) (s : Held wire) (c : Tag) (d : List ℕ) → (admit wire room k h s).1 ≡ Some (ordinary c d) → ⊥
   no_entering Fill h s c d e = let z : ◌≡◌ {A = ℕ} 0 1 = cc in omega arith
   no_entering Reserved h s c d e = let z : ◌≡◌ {A = ℕ} 0 1 = cc in omega arith
   no_entering Complete h s c d e = no_fits (leb (0 + h.header.size) room) h (begin_of h) [] c d e
@@ -138,7 +138,7 @@ module _ (room : ℕ) where
   no_entering Middle h s c d e = no_further h s c d e
   no_entering Last h s c d e = no_further h s c d e
 
-  no_closing : (k : Kind) (c : Tag) (d : List ℕ) → (finish wire k free).1 ≡ some (ordinary c d) → ⊥
+  no_closing : (k : Kind) (c : Tag) (d : List ℕ) → (finish wire k free).1 ≡ Some (ordinary c d) → ⊥
   no_closing Fill c d e = let z : ◌≡◌ {A = ℕ} 0 1 = cc in omega arith
   no_closing Reserved c d e = let z : ◌≡◌ {A = ℕ} 0 1 = cc in omega arith
   no_closing Complete c d e = let z : ◌≡◌ {A = ℕ} 0 1 = cc in omega arith
@@ -147,7 +147,7 @@ module _ (room : ℕ) where
   no_closing Last c d e = let z : ◌≡◌ {A = ℕ} 0 1 = cc in omega arith
 
   pub follows_gives : {p q : Spot} {e : Event wire} → Follows p e q → (s : Held wire) (es : List (Event wire)) → Inv p s es → (c : Tag) (d : List ℕ)
-      → (take_in wire room s e).1 ≡ some (ordinary c d) → PacketRead c.content c.at d (es ++ e ∷ [])
+      → (take_in wire room s e).1 ≡ Some (ordinary c d) → PacketRead c.content c.at d (es ++ e ∷ [])
   follows_gives loses s es i c d g = let z : ◌≡◌ {A = ℕ} 0 1 = cc in absurd (omega arith)
   follows_gives breaks s es i c d g = let z : ◌≡◌ {A = ℕ} 0 1 = cc in absurd (omega arith)
   follows_gives (opens {h = h}) s es i c d g = absurd (no_opening (kind_of h.header) h s c d g)

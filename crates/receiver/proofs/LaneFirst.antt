@@ -7,6 +7,7 @@ use native.Mathlib.Omega.{arith}
 use lib.Dec.{eqb}
 use lib.ListN.{drop, length}
 use borrow.Author.Tests.{eq-eqb, eqb-true}
+use Rattle.std.specs.Prelude.{None, Option, Some}
 use Rattle.wire.specs.declared.Header.{Header}
 use Rattle.receiver.specs.declared.About.{About}
 use Rattle.receiver.specs.declared.Find.TheVariants as F
@@ -21,13 +22,10 @@ use Rattle.receiver.specs.declared.kind.Kind.{Kind}
 use Rattle.receiver.specs.declared.kind.Kind.TheVariants.{Complete, Fill, First, Last, Middle, Reserved}
 use Rattle.receiver.specs.declared.lane.Lane.{Lane}
 use Rattle.receiver.specs.declared.lane.Lane.TheVariants as L
-use Rattle.receiver.specs.declared.low.Llep.{Llep}
-use Rattle.receiver.specs.declared.low.Llep.TheVariants.{Broken, Whole}
 use Rattle.receiver.specs.declared.low.Lows.{Lows}
 use Rattle.receiver.specs.declared.low.Lows.TheVariants as W
 use Rattle.receiver.specs.declared.stages.Stamps.{Stamps}
 use Rattle.receiver.specs.declared.walk.Kept.{Kept}
-use Rattle.receiver.specs.declared.walk.Kept.TheVariants.{Empty}
 use Rattle.receiver.specs.declared.walk.Phase.{Phase}
 use Rattle.receiver.specs.declared.walk.Phase.TheVariants.{Lost}
 use Rattle.receiver.specs.Call.{Gave, Gives, always, call_as, call_of, count_in, counted_of, due_call, lasts, low_call, moved, payload_call, said_of, stage_call, stamps_of, stepped}
@@ -55,7 +53,7 @@ call_is r n tp m f w = rw (eq-eqb (length m) r.limit f, eq-eqb (length tp) r.siz
 
 -- ---- before ordinary bytes nobody looks at the stage, nor at where the walk stood
 
-low_at_lem : (b : Receiver) (k : ℕ) (s s' : Stage) (i j : ℕ) (p : Phase) (g : Place) (y : Kept) (x : Lows) (t : Stamp) (o : ℕ) (tp m : List ℕ)
+low_at_lem : (b : Receiver) (k : ℕ) (s s' : Stage) (i j : ℕ) (p : Phase) (g : Place) (y : Option Kept) (x : Lows) (t : Stamp) (o : ℕ) (tp m : List ℕ)
     → low_call x (made_of b k s (walk_at i p g y)) t o tp m ≡ low_call x (made_of b k s' (walk_at j p g y)) t o tp m
 unfolding due_call
 low_at_lem b k s s' i j p g y (W.Broken at) t o tp m = refl
@@ -127,9 +125,9 @@ passed_lasts First h more at go ih = refl
 passed_lasts Middle h more at go ih = refl
 passed_lasts Last h more at go ih = refl
 
-one_lasts : (l : Llep) (at : ℕ) (go : ℕ → Lows) → ((i : ℕ) → LastsIf (go i)) → LastsIf (and_then (one_of l at) go)
-one_lasts Broken at go ih = omega arith
-one_lasts (Whole h more) at go ih = passed_lasts (kind_of h) h more at go ih
+one_lasts : (l : Option (Header × Bool)) (at : ℕ) (go : ℕ → Lows) → ((i : ℕ) → LastsIf (go i)) → LastsIf (and_then (one_of l at) go)
+one_lasts None at go ih = omega arith
+one_lasts (Some (h, more)) at go ih = passed_lasts (kind_of h) h more at go ih
 
 lows_last : (k : ℕ) (tp : List ℕ) (at : ℕ) → LastsIf (lows k tp at)
 unfolding lows
@@ -145,7 +143,7 @@ pub low_broken : (b : Receiver) (k : ℕ) (l : Lane) (o at : ℕ) (t : Stamp) (t
     → (d : Drops b k t 11 (call_by t (in_lane b k l (Low o) at) tp m) tp m) × (d.place ≡ i)
 low_broken b k l o at t tp m d i e =
     let r = in_lane b k l (Low o) at in
-    let s = step_of r Plain (length tp) Lost Empty (F.Notice 11) (place_at t i) in
+    let s = step_of r Plain (length tp) Lost None (F.Notice 11) (place_at t i) in
     let inside = low_in_lem true tp at (W.Broken i) d.within e in
     let is : low_call (W.Broken i) r t o tp m ≡ call_by t r tp m = ap (λ (x : Lows). low_call x r t o tp m) (sym e) ∙ sym (low_is b k t tp m d.full d.whole l o at) in
     drops_at b k t at tp m d (Low o) r.walk (call_by t r tp m) 11 i (omega arith, refl, omega arith)

@@ -2,19 +2,17 @@
 -- comes to. Assumes nothing.
 use mathlib.Core.Path.{◌≡◌, refl, sym, subst, ap, ◌∙◌}
 use mathlib.Core.Bool.{Bool, true, false, cond}
-use mathlib.Core.Option.{Option, none, some}
 use mathlib.Core.List.{List}
 use Prim.Native.Nat.{ℕ, ◌+◌, ◌-◌, ◌≤◌, ◌<◌, min}
 use native.Mathlib.Omega.{arith}
 use lib.Dec.{eqb, leb, ltb}
 use lib.ListN.{drop, length, length-drop, take}
 use borrow.Author.Tests.{eq-eqb, le-ltb, lt-ltb, ne_eqb}
+use Rattle.std.specs.Prelude.{Err, Ok, Result, None, Option, Some}
 use Rattle.digits.specs.Digits.{number}
 use Rattle.queue.specs.Ring.{copied}
-use Rattle.wire.specs.Reading.{header_in, read_of}
+use Rattle.wire.specs.Reading.{header_in}
 use Rattle.wire.specs.declared.Header.{Header}
-use Rattle.wire.specs.declared.Read.{Read}
-use Rattle.wire.specs.declared.Read.TheVariants as R
 use Rattle.receiver.specs.declared.Find.TheVariants as F
 use Rattle.receiver.specs.declared.Place.{Place}
 use Rattle.receiver.specs.declared.Receiver.{Receiver}
@@ -26,12 +24,9 @@ use Rattle.receiver.specs.declared.lane.Lane.TheVariants as L
 use Rattle.receiver.specs.declared.lane.Met.{Met}
 use Rattle.receiver.specs.declared.lane.Met.TheVariants as M
 use Rattle.receiver.specs.declared.outset.Fore.TheVariants.{At, Off}
-use Rattle.receiver.specs.declared.outset.Offset.TheVariants.{Behind, Outside}
-use Rattle.receiver.specs.declared.outset.Start.TheVariants as O
 use Rattle.receiver.specs.declared.stages.Course.TheVariants as C
 use Rattle.receiver.specs.declared.walk.Answer.{Answer}
 use Rattle.receiver.specs.declared.walk.Gain.TheVariants.{Nothing, Packet}
-use Rattle.receiver.specs.declared.walk.Kept.TheVariants.{Empty, Of}
 use Rattle.receiver.specs.declared.walk.Phase.{Phase}
 use Rattle.receiver.specs.declared.walk.Phase.TheVariants.{Body, Head, Lost}
 use Rattle.receiver.specs.declared.walk.Turn.{Turn}
@@ -51,7 +46,7 @@ use Rattle.receiver.specs.Outset.{fore_of, place_of, set_out_of, upon_of}
 use Rattle.receiver.specs.Pieces.{step_of}
 use Rattle.receiver.specs.Place.{start_of}
 use Rattle.receiver.specs.Pull.{Pulled}
-use Rattle.receiver.specs.State.{Sound, pull_of}
+use Rattle.receiver.specs.State.{Sound, pull_of, kept_by}
 use Rattle.receiver.specs.Turns.{advance_of, body_turn, header_turn, opened_of, stops, walk_at}
 use Rattle.receiver.proofs.Advancing.{body_cut, body_read}
 use Rattle.receiver.proofs.Answering.{call_gives}
@@ -72,27 +67,27 @@ pub settings_only : (b : Receiver) (k : ℕ) (s s' : Stage) (w w' : Walk) (t : S
 settings_only b k s s' w w' t p = by p.find
   where
     by : (f : Option (Finding wire)) → ordinary_by f (made_of b k s w) t p ≡ ordinary_by f (made_of b k s' w') t p
-    by none = refl
-    by (some (notice i g)) = refl
-    by (some (low x d)) = refl
-    by (some (ordinary x d)) = refl
+    by None = refl
+    by (Some (notice i g)) = refl
+    by (Some (low x d)) = refl
+    by (Some (ordinary x d)) = refl
 
 -- 10, 21: the rest of the TP is dropped
-outside_drops : (o at len n : ℕ) → place_of o at len ≡ Outside n → DropsRest n 4
+outside_drops : (o at len n : ℕ) → place_of o at len ≡ Err n → DropsRest n 4
 unfolding place_of
 outside_drops o at len n e = by (eqb o 2047) (leb len (o + 4)) (ltb (o + 4) at) e
   where
-    by : (x y z : Bool) → cond x (Behind (len - at)) (cond y (Outside 10) (cond z (Outside 21) (Behind (o + 4 - at)))) ≡ Outside n → DropsRest n 4
+    by : (x y z : Bool) → cond {A = Result ℕ ℕ} x (Ok (len - at)) (cond y (Err 10) (cond z (Err 21) (Ok (o + 4 - at)))) ≡ Err n → DropsRest n 4
     by true y z e = let q : ◌≡◌ {A = ℕ} 0 1 = cc in absurd (omega arith)
     by false true z e = let q : 10 ≡ n = cc in subst (λ (i : ℕ). DropsRest i 4) q (omega arith, refl, refl)
     by false false true e = let q : 21 ≡ n = cc in subst (λ (i : ℕ). DropsRest i 4) q (omega arith, refl, refl)
     by false false false e = let q : ◌≡◌ {A = ℕ} 0 1 = cc in absurd (omega arith)
 
-outside_plain : (o at len n : ℕ) → place_of o at len ≡ Outside n → eqb n 11 ≡ false
+outside_plain : (o at len n : ℕ) → place_of o at len ≡ Err n → eqb n 11 ≡ false
 unfolding place_of
 outside_plain o at len n e = by (eqb o 2047) (leb len (o + 4)) (ltb (o + 4) at) e
   where
-    by : (x y z : Bool) → cond x (Behind (len - at)) (cond y (Outside 10) (cond z (Outside 21) (Behind (o + 4 - at)))) ≡ Outside n → eqb n 11 ≡ false
+    by : (x y z : Bool) → cond {A = Result ℕ ℕ} x (Ok (len - at)) (cond y (Err 10) (cond z (Err 21) (Ok (o + 4 - at)))) ≡ Err n → eqb n 11 ≡ false
     by true y z e = let q : ◌≡◌ {A = ℕ} 0 1 = cc in absurd (omega arith)
     by false true z e = let q : 10 ≡ n = cc in subst (λ (i : ℕ). eqb i 11 ≡ false) q refl
     by false false true e = let q : 21 ≡ n = cc in subst (λ (i : ℕ). eqb i 11 ≡ false) q refl
@@ -102,9 +97,9 @@ module _ (b : Receiver) (k : ℕ) (t : Stamp) (o n : ℕ) (tp m : List ℕ) (w :
   abbrev c : Receiver
   c = made_of b k (Due o) w
 
-  out_drops : place_of o w.at (length tp) ≡ Outside n → Drops b k t n (call_by t c tp m) tp m
+  out_drops : place_of o w.at (length tp) ≡ Err n → Drops b k t n (call_by t c tp m) tp m
   out_drops e =
-      let q = step_of c Plain (length tp) Lost Empty (F.Notice n) (start_of t) in
+      let q = step_of c Plain (length tp) Lost None (F.Notice n) (start_of t) in
       drops_rest b k t w.at tp m d (Due o) w (call_by t c tp m) n 4 (outside_drops o w.at (length tp) n e)
       (call_gives c (always t) tp m (C.Gives q) q d.full d.whole (due_outside c t o w.at tp l n e) refl)
 
@@ -112,14 +107,14 @@ module _ (b : Receiver) (k : ℕ) (t : Stamp) (o n : ℕ) (tp m : List ℕ) (w :
   abbrev ReadsOn : Walk → Type 0
   ReadsOn x = ordinary_call c t (pull_of (length m) t x tp m) ≡ call_by t c tp m
 
-  out_reads : (x : Walk) → place_of o w.at (length tp) ≡ Behind n → O.Reads x ≡ set_out_of w n tp → ReadsOn x
+  out_reads : (x : Walk) → place_of o w.at (length tp) ≡ Ok n → Ok x ≡ set_out_of w n tp → ReadsOn x
   unfolding Leads call_as
   out_reads x e s =
       let within = behind_in o w.at (length tp) n d.within e in
-      let u = due_behind c t o w.at tp l (C.Reads x) n e (set_reads c t w.at n tp (O.Reads x) l x within s refl) in
+      let u = due_behind c t o w.at tp l (C.Reads x) n e (set_reads c t w.at n tp (Ok x) l x within s refl) in
       rw (eq-eqb (length m) b.limit d.full, eq-eqb (length tp) b.size d.whole) (u.same m d.full)
 
-  out_agree : place_of o w.at (length tp) ≡ Behind n → fore_of w.phase (drop w.at tp) ≡ At n → ReadsOn w
+  out_agree : place_of o w.at (length tp) ≡ Ok n → fore_of w.phase (drop w.at tp) ≡ At n → ReadsOn w
   out_agree e f = out_reads w e (set_agree w n tp n f refl)
 
   -- as a call there would
@@ -159,7 +154,7 @@ lane_lent b k o at (L.Busy g left len c e) tp m d p y =
 
 -- ---- past the payload, or before the low-latency part's end
 
-pub out_outside : (l : Lane) (o at n : ℕ) (tp m : List ℕ) → Tidy (length m) l → Outside n ≡ place_of o at (length tp) → OutAs (M.Drops n) l o at tp m m
+pub out_outside : (l : Lane) (o at n : ℕ) (tp m : List ℕ) → Tidy (length m) l → Err n ≡ place_of o at (length tp) → OutAs (M.Drops n) l o at tp m m
 out_outside l o at n tp m y e = λ b k t d p small. (refl, by l y b k t d (lane_lent b k o at l tp m d p y), outside_plain o at (length tp) n (sym e))
   where
     by : (l : Lane) → Tidy (length m) l → (b : Receiver) (k : ℕ) (t : Stamp) → Lends b at tp m → Lent (in_lane b k l (Due o) at) at tp
@@ -180,19 +175,19 @@ module _ (n at : ℕ) (tp m : List ℕ) where
   lane_as q l l' m' e s = subst (λ (x : Lane). SetAs q x n at tp m m') (sym e) s
 
   -- out of step there is no forecast
-  module _ (b : Receiver) (k : ℕ) (t : Stamp) (o : ℕ) (d : Lends b at tp m) (p : 4 ≤ at) (e : place_of o at (length tp) ≡ Behind n) where
+  module _ (b : Receiver) (k : ℕ) (t : Stamp) (o : ℕ) (d : Lends b at tp m) (p : 4 ≤ at) (e : place_of o at (length tp) ≡ Ok n) where
     abbrev lost : Walk
     lost = walk_in b.walk.began L.Lost at
 
     lent : Lent (in_lane b k L.Lost (Due o) at) at tp
     lent = lane_lent b k o at L.Lost tp m d p (omega arith)
 
-    lost_on : (q : Phase) → upon_of (at + n) (length tp) ≡ q → ReadsOn b k t o n tp m lost d lent (walk_at (at + n) q b.walk.began Empty)
+    lost_on : (q : Phase) → upon_of (at + n) (length tp) ≡ q → ReadsOn b k t o n tp m lost d lent (walk_at (at + n) q b.walk.began None)
     unfolding fore_of
     lost_on q u =
         let s = set_by lost n tp Off refl in
-        let x = subst (λ (y : Phase). O.Reads (walk_at (at + n) y b.walk.began Empty) ≡ set_out_of lost n tp) u s in
-        out_reads b k t o n tp m lost d lent (walk_at (at + n) q b.walk.began Empty) e x
+        let x = subst (λ (y : Phase). Ok (walk_at (at + n) y b.walk.began None) ≡ set_out_of lost n tp) u s in
+        out_reads b k t o n tp m lost d lent (walk_at (at + n) q b.walk.began None) e x
 
   pub lost_reads : at + n < length tp → SetAs (M.Reads (at + n)) L.Lost n at tp m m
   unfolding upon_of
@@ -204,7 +199,7 @@ module _ (n at : ℕ) (tp m : List ℕ) where
   unfolding upon_of Carries
   lost_stays i l = λ b k t o d p small e.
       let u : upon_of (at + n) (length tp) ≡ Lost = rw (le-ltb (at + n) (length tp) l) in
-      let x = walk_at (at + n) Lost b.walk.began Empty in
+      let x = walk_at (at + n) Lost b.walk.began None in
       let h : Ends (length m) t x tp m (answer_at (length tp) Lost b.walk.began Nothing) m = lost_turned (length m) t tp m x (record { at = i; phase = omega arith }) refl in
       ends_lost b k t at tp m m d refl (Due o) (lost b k t o d p e) x _ (lost_on b k t o d p e Lost u) (length tp) b.walk.began h
 
@@ -224,21 +219,21 @@ module _ (g : Place) (left len c e n at : ℕ) (tp m m' : List ℕ) (y : Tidy (l
   h = complete_of c (len + left) e
 
   abbrev w : Walk
-  w = walk_at at (Body h left) g (Of c e g len)
+  w = walk_at at (Body h left) g (kept_by c e g len)
 
-  busy_on : (b : Receiver) (k : ℕ) (t : Stamp) (o : ℕ) → Lends b at tp m → 4 ≤ at → place_of o at (length tp) ≡ Behind n
+  busy_on : (b : Receiver) (k : ℕ) (t : Stamp) (o : ℕ) → Lends b at tp m → 4 ≤ at → place_of o at (length tp) ≡ Ok n
       → ordinary_call (made_of b k (Due o) w) t (pull_of (length m) t w tp m) ≡ call_by t (made_of b k (Due o) w) tp m
   busy_on b k t o d p q =
       let f = body_fore h left (length tp - at) (drop at tp) (length-drop at tp) in
       out_agree b k t o n tp m w d (lane_lent b k o at (L.Busy g left len c e) tp m d p y) q (sym f ∙ ap At least)
 
-  carries : (t : Stamp) → Carries (length m) t w tp m (body_turn tp at h left g (Of c e g len)) m'
+  carries : (t : Stamp) → Carries (length m) t w tp m (body_turn tp at h left g (kept_by c e g len)) m'
   unfolding advance_of room_of
   carries t =
-      let p = put_is tp at n c e g len (Of c e g len) m m' refl within (omega (arith, least, y.1)) put in
+      let p = put_is tp at n c e g len (kept_by c e g len) m m' refl within (omega (arith, least, y.1)) put in
       rw (p, sym least) (advance_carries (length m) t tp m refl bytes w (record { at = omega (arith, within); phase = y.1 }))
 
-  stops_at : (t : Stamp) (a : Answer) → Stop a ≡ body_turn tp at h left g (Of c e g len) → Ends (length m) t w tp m a m'
+  stops_at : (t : Stamp) (a : Answer) → Stop a ≡ body_turn tp at h left g (kept_by c e g len) → Ends (length m) t w tp m a m'
   unfolding Carries
   stops_at t a q = subst (λ (r : Turn). Carries (length m) t w tp m r m') (sym q) (carries t)
 
@@ -248,34 +243,34 @@ module _ (g : Place) (left len c e n at : ℕ) (tp m m' : List ℕ) (y : Tidy (l
       ends_busy b k t at tp m m' d same (Due o) w w _ (busy_on b k t o d p q) (at + n) g h (left - n) (len + n) c e
       (ap (λ (i : ℕ). complete_of c i e) z) (omega (arith, least, f)) y.2 y.3 (stops_at t _ cut)
     where
-      cut : stops (at + n) (Body h (left - n)) g (Of c e g (len + n)) Nothing ≡ body_turn tp at h left g (Of c e g len)
+      cut : stops (at + n) (Body h (left - n)) g (kept_by c e g (len + n)) Nothing ≡ body_turn tp at h left g (kept_by c e g len)
       cut =
           let z : length tp - at ≡ n = omega (arith, least, f) in
-          subst (λ (i : ℕ). stops (at + i) (Body h (left - i)) g (Of c e g (len + i)) Nothing ≡ body_turn tp at h left g (Of c e g len)) z (body_cut tp at left h g (Of c e g len) f)
+          subst (λ (i : ℕ). stops (at + i) (Body h (left - i)) g (kept_by c e g (len + i)) Nothing ≡ body_turn tp at h left g (kept_by c e g len)) z (body_cut tp at left h g (kept_by c e g len) f)
 
   pub busy_gives : left ≤ length tp - at → SetAs (M.Gives c e g (len + n) (at + n)) (L.Busy g left len c e) n at tp m m'
   busy_gives f = λ b k t o d p small q.
       gives_packet b k t at tp m m' d same (Due o) w w _ (busy_on b k t o d p q) (at + n) g c e g (len + n) (stops_at t _ read)
     where
-      read : stops (at + n) (Head 0 0) g Empty (Packet c e g (len + n)) ≡ body_turn tp at h left g (Of c e g len)
+      read : stops (at + n) (Head 0 0) g None (Packet c e g (len + n)) ≡ body_turn tp at h left g (kept_by c e g len)
       read =
           let z : left ≡ n = omega (arith, least, f) in
           let k = complete_kind h y.2 y.3 refl in
-          let x : stops (at + left) (Head 0 0) g Empty (Packet c e g (len + left)) ≡ body_turn tp at h left g (Of c e g len) = rw k at (body_read tp at left h g (Of c e g len) f) in
-          subst (λ (i : ℕ). stops (at + i) (Head 0 0) g Empty (Packet c e g (len + i)) ≡ body_turn tp at h left g (Of c e g len)) z x
+          let x : stops (at + left) (Head 0 0) g None (Packet c e g (len + left)) ≡ body_turn tp at h left g (kept_by c e g len) = rw k at (body_read tp at left h g (kept_by c e g len) f) in
+          subst (λ (i : ℕ). stops (at + i) (Head 0 0) g None (Packet c e g (len + i)) ≡ body_turn tp at h left g (kept_by c e g len)) z x
 
 -- ---- in a header
 
-pub read_of_lem : (have word at : ℕ) (tp : List ℕ) (w : ℕ) (r : Read) (h : Header) → w ≡ number word (take (6 - have) (drop at tp)) → r ≡ read_of (header_in w) → r ≡ R.Whole h
-    → read_of (header_in (number word (take (6 - have) (drop at tp)))) ≡ R.Whole h
-read_of_lem have word at tp w r h e f g = ap (λ (y : ℕ). read_of (header_in y)) (sym e) ∙ sym f ∙ g
+pub read_of_lem : (have word at : ℕ) (tp : List ℕ) (w : ℕ) (r : Option Header) (h : Header) → w ≡ number word (take (6 - have) (drop at tp)) → r ≡ header_in w → r ≡ Some h
+    → header_in (number word (take (6 - have) (drop at tp))) ≡ Some h
+read_of_lem have word at tp w r h e f g = ap (λ (y : ℕ). header_in y) (sym e) ∙ sym f ∙ g
 
 pub least_of : (a i j n : ℕ) → i ≡ j → a + i ≡ n → a + j ≡ n
 least_of a i j n e f = ap (◌+◌ a) (sym e) ∙ f
 
 module _ (g : Place) (have word n at : ℕ) (tp m : List ℕ) (y : Tidy (length m) (L.Cut g have word)) (bytes : Bytes tp) (within : at ≤ length tp) where
   abbrev cut : Walk
-  cut = walk_at at (Head have word) g Empty
+  cut = walk_at at (Head have word) g None
 
   begun : eqb have 0 ≡ false
   begun = ne_eqb have 0 (λ (e : have ≡ 0). omega (arith, e, y.0))
@@ -283,13 +278,13 @@ module _ (g : Place) (have word n at : ℕ) (tp m : List ℕ) (y : Tidy (length 
   lent_cut : (b : Receiver) (k o : ℕ) → Lends b at tp m → 4 ≤ at → Lent (made_of b k (Due o) cut) at tp
   lent_cut b k o d p = lane_lent b k o at (L.Cut g have word) tp m d p y
 
-  cut_on : (b : Receiver) (k : ℕ) (t : Stamp) (o : ℕ) → Lends b at tp m → 4 ≤ at → place_of o at (length tp) ≡ Behind n → At n ≡ ahead_of tp at have word
+  cut_on : (b : Receiver) (k : ℕ) (t : Stamp) (o : ℕ) → Lends b at tp m → 4 ≤ at → place_of o at (length tp) ≡ Ok n → At n ≡ ahead_of tp at have word
       → ordinary_call (made_of b k (Due o) cut) t (pull_of (length m) t cut tp m) ≡ call_by t (made_of b k (Due o) cut) tp m
   cut_on b k t o d p q f =
       let u = ahead_fore tp at have word within y.1 y.2 in
       out_agree b k t o n tp m cut d (lent_cut b k o d p) q (sym (f ∙ u))
 
-  cut_carries : (t : Stamp) → Carries (length m) t cut tp m (header_turn tp at have word g Empty (length m)) m
+  cut_carries : (t : Stamp) → Carries (length m) t cut tp m (header_turn tp at have word g None (length m)) m
   unfolding advance_of room_of
   cut_carries t =
       let s : Sound (length m) (length tp) cut = record { at = within; phase = (y.1, y.2, omega arith) } in
@@ -307,7 +302,7 @@ module _ (g : Place) (have word n at : ℕ) (tp m : List ℕ) (y : Tidy (length 
       rw q (ends_cut b k t at tp m m d refl (Due o) cut cut _ (cut_on b k t o d p e fore) (at + r) g (have + r) _ (omega (arith, y.0)) u)
 
   -- which is whole
-  module _ (h : Header) (long : 6 - have ≤ length tp - at) (read : read_of (header_in (number word (take (6 - have) (drop at tp)))) ≡ R.Whole h)
+  module _ (h : Header) (long : 6 - have ≤ length tp - at) (read : header_in (number word (take (6 - have) (drop at tp))) ≡ Some h)
       (least : 6 - have + min h.size (length tp - at - (6 - have)) ≡ n) where
     abbrev there : ℕ
     there = at + (6 - have)
@@ -318,11 +313,11 @@ module _ (g : Place) (have word n at : ℕ) (tp m : List ℕ) (y : Tidy (length 
         let u = good_fore (6 - have) (length tp - at) h (header_in (number word (take (6 - have) (drop at tp)))) read in
         rw (begun, le-ltb (length tp - at) (6 - have) long) (ap At (sym least) ∙ u)
 
-    cut_opened : (t : Stamp) → Carries (length m) t cut tp m (opened_of there h g Empty (length m)) m
+    cut_opened : (t : Stamp) → Carries (length m) t cut tp m (opened_of there h g None (length m)) m
     unfolding header_turn
     cut_opened t =
         let c = rw (le-ltb (length tp - at) (6 - have) long) at (cut_carries t) in
-        subst (λ (r : Turn). Carries (length m) t cut tp m r m) (sym (whole_read there g Empty (length m) h (header_in (number word (take (6 - have) (drop at tp)))) read)) c
+        subst (λ (r : Turn). Carries (length m) t cut tp m r m) (sym (whole_read there g None (length m) h (header_in (number word (take (6 - have) (drop at tp)))) read)) c
 
     -- that of a complete EP
     pub cut_enters : (q : Met) (m' : List ℕ) → EntersAs q h g there tp m m' → SetAs q (L.Cut g have word) n at tp m m'
@@ -332,20 +327,20 @@ module _ (g : Place) (have word n at : ℕ) (tp m : List ℕ) (y : Tidy (length 
         subst (λ (y : Gave). MetAs q b k t y tp m m') same (en b k t cut i (cut_opened t))
 
     -- that of fill
-    fill_on : (t : Stamp) → h.content ≡ 0 → h.size ≤ length tp - at - (6 - have) → On (length m) t cut tp m (between (there + h.size) g Empty) m
+    fill_on : (t : Stamp) → h.content ≡ 0 → h.size ≤ length tp - at - (6 - have) → On (length m) t cut tp m (between (there + h.size) g None) m
     unfolding Carries advance_of room_of
     fill_on t z f =
-        let x = walk_at there (Body h h.size) g Empty in
+        let x = walk_at there (Body h h.size) g None in
         let v : On (length m) t cut tp m x m = subst (λ (r : Turn). Carries (length m) t cut tp m r m) (fill_opened there h g (length m) (fill_kind h z)) (cut_opened t) in
         let s = advance_carries (length m) t tp m refl bytes x v.sound in
-        let l = rw (fill_kind h z) at (body_read tp there h.size h g Empty (omega (arith, f))) in
-        let u : On (length m) t x tp m (between (there + h.size) g Empty) m = subst (λ (r : Turn). Carries (length m) t x tp m r m) (sym l) s in
-        then_on (length m) t tp cut x (between (there + h.size) g Empty) m m m v u
+        let l = rw (fill_kind h z) at (body_read tp there h.size h g None (omega (arith, f))) in
+        let u : On (length m) t x tp m (between (there + h.size) g None) m = subst (λ (r : Turn). Carries (length m) t x tp m r m) (sym l) s in
+        then_on (length m) t tp cut x (between (there + h.size) g None) m m m v u
 
     pub cut_fill_lem : h.content ≡ 0 → h.size ≤ length tp - at - (6 - have) → SetAs (M.Reads (there + h.size)) (L.Cut g have word) n at tp m m
     cut_fill_lem z f = λ b k t o d p small e.
         let u = fill_on t z f in
-        let x = between (there + h.size) b.walk.began Empty in
-        let free = began_free (length m) t tp (there + h.size) b.walk.began g Empty m in
+        let x = between (there + h.size) b.walk.began None in
+        let free = began_free (length m) t tp (there + h.size) b.walk.began g None m in
         let on = ap (ordinary_call (made_of b k (Due o) cut) t) (free ∙ u.same) ∙ cut_on b k t o d p e whole_fore in
         (refl, u.sound.at, out_plain b k t o n tp m cut d (lent_cut b k o d p) x on)

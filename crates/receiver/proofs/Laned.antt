@@ -1,10 +1,11 @@
 -- The lane of a receiver before a TP stands for that receiver. Assumes nothing.
 use Prim.Native.Nat.{ℕ, ◌+◌, ◌≤◌, ◌<◌, ◌^◌}
 use mathlib.Core.Path.{◌≡◌, refl, sym, subst, ap, ◌∙◌}
-use mathlib.Core.Bool.{Bool, true, false}
+use mathlib.Core.Bool.{Bool, true, false, not, ◌&&◌}
 use native.Mathlib.Omega.{arith}
 use lib.Dec.{eqb}
 use borrow.Author.Tests.{eqb-true}
+use Rattle.std.specs.Prelude.{None, Option}
 use Rattle.wire.specs.declared.Header.{Header}
 use Rattle.receiver.specs.declared.Place.{Place}
 use Rattle.receiver.specs.declared.Receiver.{Receiver}
@@ -13,58 +14,57 @@ use Rattle.receiver.specs.declared.Stage.TheVariants.{Fresh}
 use Rattle.receiver.specs.declared.lane.Lane.{Lane}
 use Rattle.receiver.specs.declared.lane.Lane.TheVariants as L
 use Rattle.receiver.specs.declared.walk.Kept.{Kept}
-use Rattle.receiver.specs.declared.walk.Kept.TheVariants.{Empty, Of}
 use Rattle.receiver.specs.declared.walk.Phase.{Phase}
 use Rattle.receiver.specs.declared.walk.Phase.TheVariants.{Head, Body}
 use Rattle.receiver.specs.declared.walk.Walk.{Walk}
-use Rattle.receiver.specs.InLanes.{FitsIf, SameIf, StandsAs, StandsFor}
+use Rattle.receiver.specs.InLanes.{FitsIf, StandsAs, StandsFor}
 use Rattle.receiver.specs.Lanes.{LanedAs, StandsIn, complete_of, walk_in}
-use Rattle.receiver.specs.State.{Fine, Settled}
+use Rattle.receiver.specs.State.{Fine, Settled, kept_by}
 use Rattle.receiver.specs.Turns.{walk_at}
 use Rattle.receiver.proofs.LaneAhead.{complete_is}
 
-pub same_if : (a b : Place) → a.stamp.number ≡ b.stamp.number → a.stamp.byte ≡ b.stamp.byte → SameIf (eqb a.at b.at) a b
-same_if a b n y = go (eqb a.at b.at) refl
+-- places that the derived `==` calls the same
+pub same_of_lem : (a b : Place) → false ≡ not ((eqb a.stamp.number b.stamp.number && eqb a.stamp.byte b.stamp.byte) && eqb a.at b.at) → a ≡ b
+same_of_lem a b e = go (eqb a.stamp.number b.stamp.number) (eqb a.stamp.byte b.stamp.byte) (eqb a.at b.at) refl refl refl e
   where
-    go : (x : Bool) → eqb a.at b.at ≡ x → SameIf x a b
-    go false e = omega arith
-    go true e =
-        ap (λ (i : ℕ). record { stamp = record { number = i; byte = a.stamp.byte }; at = a.at }) n
-        ∙ ap (λ (i : ℕ). record { stamp = record { number = b.stamp.number; byte = i }; at = a.at }) y
-        ∙ ap (λ (i : ℕ). record { stamp = b.stamp; at = i }) (eqb-true a.at b.at e)
-
-pub same_of_lem : (x : Bool) (a b : Place) → SameIf x a b → x ≡ true → a ≡ b
-same_of_lem x a b s e = subst (λ (x : Bool). SameIf x a b) e s
+    go : (x y z : Bool) → eqb a.stamp.number b.stamp.number ≡ x → eqb a.stamp.byte b.stamp.byte ≡ y → eqb a.at b.at ≡ z → false ≡ not ((x && y) && z) → a ≡ b
+    go true true true p q r e =
+        ap (λ (i : ℕ). record { stamp = record { number = i; byte = a.stamp.byte }; at = a.at }) (eqb-true a.stamp.number b.stamp.number p)
+        ∙ ap (λ (i : ℕ). record { stamp = record { number = b.stamp.number; byte = i }; at = a.at }) (eqb-true a.stamp.byte b.stamp.byte q)
+        ∙ ap (λ (i : ℕ). record { stamp = b.stamp; at = i }) (eqb-true a.at b.at r)
+    go true true false p q r e = cc
+    go true false z p q r e = cc
+    go false y z p q r e = cc
 
 module _ (cap : ℕ) (p : Phase) (g : Place) where
-  pub unkept_idle : (n w : ℕ) → p ≡ Head n w → n ≡ 0 → Settled p → StandsFor cap L.Idle (walk_at 0 p g Empty)
+  pub unkept_idle : (n w : ℕ) → p ≡ Head n w → n ≡ 0 → Settled p → StandsFor cap L.Idle (walk_at 0 p g None)
   unkept_idle n w e z s =
       let f : (0 ≤ 5) × (w < 256 ^ 0) = subst Settled (e ∙ ap (λ (i : ℕ). Head i w) z) s in
       let y : w ≡ 0 = omega (arith, f.1) in
-      (ap (λ (q : Phase). walk_at 0 q g Empty) (e ∙ ap (λ (i : ℕ). Head i w) z ∙ ap (Head 0) y), omega arith)
+      (ap (λ (q : Phase). walk_at 0 q g None) (e ∙ ap (λ (i : ℕ). Head i w) z ∙ ap (Head 0) y), omega arith)
 
-  pub unkept_cut : (n w : ℕ) → p ≡ Head n w → (n ≡ 0 → ⊥) → Settled p → StandsFor cap (L.Cut g n w) (walk_at 0 p g Empty)
+  pub unkept_cut : (n w : ℕ) → p ≡ Head n w → (n ≡ 0 → ⊥) → Settled p → StandsFor cap (L.Cut g n w) (walk_at 0 p g None)
   unkept_cut n w e z s =
       let f : (n ≤ 5) × (w < 256 ^ n) = subst Settled e s in
-      (ap (λ (q : Phase). walk_at 0 q g Empty) e, (omega (arith, z), f.0, f.1))
+      (ap (λ (q : Phase). walk_at 0 q g None) e, (omega (arith, z), f.0, f.1))
 
-  module _ (h : Header) (left : ℕ) (e : p ≡ Body h left) (c r : ℕ) (q : Place) (len : ℕ) (s : Settled p) (f : Fine cap p (Of c r q len)) where
+  module _ (h : Header) (left : ℕ) (e : p ≡ Body h left) (c r : ℕ) (q : Place) (len : ℕ) (s : Settled p) (f : Fine cap p (kept_by c r q len)) where
     pub kept_roomy : len + left ≤ cap
-    kept_roomy = subst (λ (x : Phase). Fine cap x (Of c r q len)) e f
+    kept_roomy = subst (λ (x : Phase). Fine cap x (kept_by c r q len)) e f
 
     pub kept_busy : FitsIf true h cap → h.content ≡ c → h.flips ≡ r → h.size ≡ len + left → g ≡ q
-        → StandsFor cap (L.Busy g left len c h.flips) (walk_at 0 p g (Of c r q len))
+        → StandsFor cap (L.Busy g left len c h.flips) (walk_at 0 p g (kept_by c r q len))
     kept_busy t a b z y =
         let l : 0 < left = subst Settled e s in
         let u : h ≡ complete_of c (len + left) h.flips =
         complete_is h (len + left) t.2 z ∙ ap (λ (i : ℕ). complete_of i (len + left) h.flips) a in
-        let k : ◌≡◌ {A = Kept} (Of c r q len) (Of c h.flips g len) = ap (λ (i : ℕ). Of c i q len) (sym b) ∙ ap (λ (x : Place). Of c h.flips x len) (sym y) in
+        let k : ◌≡◌ {A = Option Kept} (kept_by c r q len) (kept_by c h.flips g len) = ap (λ (i : ℕ). kept_by c i q len) (sym b) ∙ ap (λ (x : Place). kept_by c h.flips x len) (sym y) in
         let v : p ≡ Body (complete_of c (len + left) h.flips) left = e ∙ ap (λ (x : Header). Body x left) u in (
-          ap (λ (x : Phase). walk_at 0 x g (Of c r q len)) v ∙ ap (walk_at 0 (Body (complete_of c (len + left) h.flips) left) g) k,
+          ap (λ (x : Phase). walk_at 0 x g (kept_by c r q len)) v ∙ ap (walk_at 0 (Body (complete_of c (len + left) h.flips) left) g) k,
           (l, kept_roomy, subst (λ (i : ℕ). 1 ≤ i) a t.3, subst (λ (i : ℕ). i ≤ 6) a t.4),
         )
 
-pub walk_is : (v : Walk) (k : Kept) → v.at ≡ 0 → v.kept ≡ k → v ≡ walk_at 0 v.phase v.began k
+pub walk_is : (v : Walk) (k : Option Kept) → v.at ≡ 0 → v.kept ≡ k → v ≡ walk_at 0 v.phase v.began k
 walk_is v k z e = ap (λ (i : ℕ). walk_at i v.phase v.began v.kept) z ∙ ap (walk_at 0 v.phase v.began) e
 
 -- the receiver whose walk a lane stands for

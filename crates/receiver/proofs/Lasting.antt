@@ -2,12 +2,12 @@
 use mathlib.Core.Path.{ap, refl, sym, ◌∙◌, ◌≡◌}
 use mathlib.Core.Logic.{inl, inr, ◌⊎◌}
 use mathlib.Core.Bool.{Bool, cond, false, true, ◌&&◌}
-use mathlib.Core.Option.{Option, none, some}
 use mathlib.Core.List.{List, [], ◌∷◌}
 use Prim.Native.Nat.{suc, ℕ, ◌%◌, ◌+◌, ◌-◌}
 use lib.Dec.{eqb, leb}
 use lib.ListN.{drop, get_or, length, length-set, take}
 use borrow.Author.Tests.{eq-eqb}
+use Rattle.std.specs.Prelude.{None, Option, Some}
 use Rattle.digits.specs.Digits.{number}
 use Rattle.wire.specs.Reading.{stream_of, tp_number_in, version_of}
 use Rattle.receiver.specs.declared.Find.{Find}
@@ -47,8 +47,8 @@ module _ (cap : ℕ) where
 
   met_length : (x : Option (Finding wire)) (s : Held wire) (m : List ℕ) (es : List (Event wire)) (on : Met wire) (n : ℕ)
       → length m ≡ n → length (room_of_lem on) ≡ n → length (room_of_lem (met wire x s m es on)) ≡ n
-  met_length none s m es on n a b = b
-  met_length (some f) s m es on n a b = a
+  met_length None s m es on n a b = b
+  met_length (Some f) s m es on n a b = a
 
   meet_length : (s : Held wire) (m : List ℕ) (es : List (Event wire)) → length (room_of_lem (meet wire cap s m es)) ≡ length m
   meet_length s m [] = refl
@@ -86,10 +86,10 @@ pub record Keeps (r : Receiver) (m : List ℕ) (g : Gave) : Type 0 where
 -- in a TP of this stamp
 module _ (r : Receiver) (t : Stamp) (tp m : List ℕ) where
   plain_lasts : (x : Option (Finding wire)) (p : Pulled wire) → length p.room ≡ length m → Keeps r m (ordinary_by x r t p)
-  plain_lasts none p e = record { lasts = record { size = refl; stream = refl; limit = refl; room = e }; count = refl }
-  plain_lasts (some (notice n g)) p e = record { lasts = record { size = refl; stream = refl; limit = refl; room = e }; count = refl }
-  plain_lasts (some (low c d)) p e = record { lasts = record { size = refl; stream = refl; limit = refl; room = e }; count = refl }
-  plain_lasts (some (ordinary c d)) p e = record { lasts = record { size = refl; stream = refl; limit = refl; room = e }; count = refl }
+  plain_lasts None p e = record { lasts = record { size = refl; stream = refl; limit = refl; room = e }; count = refl }
+  plain_lasts (Some (notice n g)) p e = record { lasts = record { size = refl; stream = refl; limit = refl; room = e }; count = refl }
+  plain_lasts (Some (low c d)) p e = record { lasts = record { size = refl; stream = refl; limit = refl; room = e }; count = refl }
+  plain_lasts (Some (ordinary c d)) p e = record { lasts = record { size = refl; stream = refl; limit = refl; room = e }; count = refl }
 
   start_lasts : (at : ℕ) (x : Start wire) → Keeps r m (start_call r t at x tp m)
   start_lasts at x =
@@ -113,8 +113,8 @@ module _ (r : Receiver) (t : Stamp) (tp m : List ℕ) where
   gone_lasts n = record { lasts = record { size = refl; stream = refl; limit = refl; room = refl }; count = refl }
 
   begun_lasts : (o : Option ℕ) → Keeps r m (word_call o r t tp m)
-  begun_lasts none = gone_lasts 9
-  begun_lasts (some w) = payload_call_lasts (leb 2048 w) (w % 2048)
+  begun_lasts None = gone_lasts 9
+  begun_lasts (Some w) = payload_call_lasts (leb 2048 w) (w % 2048)
 
   still_lasts : (f : Find) (n : ℕ) → Keeps r m (unchanged r t f n m)
   still_lasts f n = record { lasts = record { size = refl; stream = refl; limit = refl; room = refl }; count = refl }

@@ -1,11 +1,11 @@
 -- Reading gives no notice below 10. Assumes nothing.
 use mathlib.Core.Bool.{Bool, cond, false, true}
-use mathlib.Core.Option.{Option, none, some}
 use mathlib.Core.List.{List, [], ◌++◌, ◌∷◌}
 use Prim.Native.Nat.{suc, zero, ℕ, ◌+◌, ◌-◌, ◌≤◌}
 use native.Mathlib.Omega.{arith}
 use lib.Dec.{eqb, leb, ltb}
 use lib.ListN.{length}
+use Rattle.std.specs.Prelude.{None, Option, Some}
 use Rattle.wire.specs.Reading.{header_of}
 use Rattle.receiver.specs.declared.Place.{Place}
 use Rattle.receiver.specs.declared.kind.Kind.{Kind}
@@ -33,16 +33,16 @@ AllLate [] = 0 ≤ 0
 AllLate (e ∷ es) = Late e × AllLate es
 
 abbrev pub LateFind : Option (Finding wire) → Type 0
-LateFind none = 0 ≤ 0
-LateFind (some (notice n p)) = 10 ≤ n
-LateFind (some (low c d)) = 1 ≤ 0
-LateFind (some (ordinary c d)) = 0 ≤ 0
+LateFind None = 0 ≤ 0
+LateFind (Some (notice n p)) = 10 ≤ n
+LateFind (Some (low c d)) = 1 ≤ 0
+LateFind (Some (ordinary c d)) = 0 ≤ 0
 
 broken_late : (h : Ep) (s : Held wire) → LateFind (broken wire h s).1
 broken_late h free = omega arith
 broken_late h (held c d) = omega arith
 
-either_late : (b : Bool) (s : Held wire) (n : ℕ) (p : Place) → 10 ≤ n → LateFind (cond {A = Took wire} b (s, none) (free, some (notice n p))).1
+either_late : (b : Bool) (s : Held wire) (n : ℕ) (p : Place) → 10 ≤ n → LateFind (cond {A = Took wire} b (s, None) (free, Some (notice n p))).1
 either_late true s n p l = omega arith
 either_late false s n p l = l
 
@@ -96,11 +96,11 @@ module _ (cap : ℕ) where
 
   abbrev LateMet : Met wire → Type 0
   LateMet (dry s m) = 0 ≤ 0
-  LateMet (found x s m es) = LateFind (some x)
+  LateMet (found x s m es) = LateFind (Some x)
 
   met_late : (o : Option (Finding wire)) (s : Held wire) (m : List ℕ) (es : List (Event wire)) (on : Met wire) → LateFind o → LateMet on → LateMet (met wire o s m es on)
-  met_late none s m es on a b = b
-  met_late (some x) s m es on a b = a
+  met_late None s m es on a b = b
+  met_late (Some x) s m es on a b = a
 
   meet_late : (s : Held wire) (m : List ℕ) (es : List (Event wire)) → AllLate es → LateMet (meet wire cap s m es)
   meet_late s m [] l = omega arith
@@ -118,8 +118,8 @@ module _ (cap : ℕ) where
   ending_late h (suc n) = omega arith
 
   whole_late : (p : Place) (o : Option Ep) → AllLate (whole wire p o).1
-  whole_late p none = (omega arith, omega arith)
-  whole_late p (some h) = (omega arith, (omega arith, ending_late h h.header.size))
+  whole_late p None = (omega arith, omega arith)
+  whole_late p (Some h) = (omega arith, (omega arith, ending_late h h.header.size))
 
   step_late : (f : Frame wire) (b : Place × ℕ) → AllLate (step wire f b).1
   step_late lost b = omega arith
@@ -143,8 +143,8 @@ agree_late true p f n bs = omega arith
 agree_late false p f n bs = (omega arith, omega arith)
 
 judge_late : (o : Option ℕ) (p : Place) (f : Frame wire) (n : ℕ) (bs : List (Place × ℕ)) → AllLate (judge wire o p f n bs).told
-judge_late none p f n bs = (omega arith, omega arith)
-judge_late (some m) p f n bs = agree_late (eqb m n) p f n bs
+judge_late None p f n bs = (omega arith, omega arith)
+judge_late (Some m) p f n bs = agree_late (eqb m n) p f n bs
 
 start_late : (p : Place) (f : Frame wire) (n : ℕ) (bs : List (Place × ℕ)) → AllLate (start wire p f n bs).told
 start_late p lost n bs = omega arith

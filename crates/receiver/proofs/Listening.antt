@@ -1,13 +1,13 @@
 -- ANY NUMBER OF TPS AND TOLD GAPS, from a fresh TP on: the finds of all calls are those that the definitions list.
 -- Assumes nothing.
 use mathlib.Core.Path.{ap, refl, sym, ◌∙◌, ◌≡◌}
-use mathlib.Core.Option.{none}
 use mathlib.Core.Bool.{Bool, cond, false, true}
 use mathlib.Core.List.{List, [], ◌++◌, ◌∷◌}
 use Prim.Native.Nat.{ℕ}
 use lib.Dec.{eqb, ltb}
 use lib.ListN.{length}
 use borrow.Author.Tests.{eqb-false, eqb-true}
+use Rattle.std.specs.Prelude.{Some, None}
 use Rattle.receiver.specs.declared.Receiver.{Receiver}
 use Rattle.receiver.specs.declared.Stage.{Stage}
 use Rattle.receiver.specs.declared.Step.{Step}
@@ -24,7 +24,6 @@ use Rattle.receiver.proofs.Ending.{six_tells_as, tells_as}
 use Rattle.receiver.proofs.Lasting.{first_count, lasts_as, later_count}
 use Rattle.receiver.proofs.Rest.{before, standing}
 use Rattle.receiver.proofs.Whole.{setting_of, stand_of}
-use Rattle.receiver.specs.declared.Opened.TheVariants as O
 use Rattle.receiver.specs.declared.Stage.TheVariants as S
 
 -- what the calls of one TP leave
@@ -156,11 +155,11 @@ listening {r} {m} (gap_on {q = q} {xs = xs} g l) a e f =
     ∙ listening l g.1 z k
 
 -- what is opened is fresh
-pub opened_fresh : (size stream limit : ℕ) (r : Receiver) → OpenedAs size stream limit (O.Ready r) → r ≡ fresh_of size stream limit 0
+pub opened_fresh : (size stream limit : ℕ) (r : Receiver) → OpenedAs size stream limit (Some r) → r ≡ fresh_of size stream limit 0
 opened_fresh size stream limit r o =
     by (ltb size 16) (ltb 2051 size) (ltb 15 stream) (ltb 131072 limit) (ap (λ (x : Answered). x.opened) o.same)
   where
-    by : (a b c d : Bool) → O.Ready r ≡ (cond a outside (cond b outside (cond c outside (cond d outside (record { opened = O.Ready (fresh_of size stream limit 0); number = none }))))).opened
+    by : (a b c d : Bool) → Some r ≡ (cond a outside (cond b outside (cond c outside (cond d outside (record { opened = Some (fresh_of size stream limit 0); number = None }))))).opened
         → r ≡ fresh_of size stream limit 0
     by true b c d e = cc
     by false true c d e = cc
@@ -170,7 +169,7 @@ opened_fresh size stream limit r o =
 
 -- from an opening on
 pub opening_listed : (size stream : ℕ) (m : List ℕ) (r : Receiver) {xs : List Input} {fs : List (Finding wire)} {r' : Receiver} {m' : List ℕ}
-    → OpenedAs size stream (length m) (O.Ready r) → Life r m xs fs r' m'
+    → OpenedAs size stream (length m) (Some r) → Life r m xs fs r' m'
     → listing_all (record { size = size; stream = stream; room = length m }) 0 (standing lost free) xs ≡ (fs, stand_of r' m')
 opening_listed size stream m r {xs} {fs} {r'} {m'} o l =
     let e = opened_fresh size stream (length m) r o in
@@ -183,7 +182,7 @@ opening_listed size stream m r {xs} {fs} {r'} {m'} o l =
     ∙ listening l o.able (ap (λ (r : Receiver). r.stage) e) (sym (ap (λ (r : Receiver). r.limit) e))
 
 pub from_opening : (size stream : ℕ) (m : List ℕ) (r : Receiver) {xs : List Input} {fs : List (Finding wire)} {r' : Receiver} {m' : List ℕ}
-    → OpenedAs size stream (length m) (O.Ready r) → Life r m xs fs r' m'
+    → OpenedAs size stream (length m) (Some r) → Life r m xs fs r' m'
     → (listing_all (record { size = size; stream = stream; room = length m }) 0 (standing lost free) xs).0 ≡ fs
 from_opening size stream m r o l = ap (λ (x : Listing). x.0) (opening_listed size stream m r o l)
 
@@ -198,7 +197,7 @@ rests {r} {m} (gap_on {q = q} g l) a e f =
     rests l g.1 (ap (λ (q : Receiver). q.stage) g.0) (f ∙ sym (ap (λ (q : Receiver). q.limit) g.0))
 
 pub life_rests : (size stream : ℕ) (m : List ℕ) (r : Receiver) {xs : List Input} {fs : List (Finding wire)} {r' : Receiver} {m' : List ℕ}
-    → OpenedAs size stream (length m) (O.Ready r) → Life r m xs fs r' m' → Able r' × (r'.stage ≡ S.Fresh)
+    → OpenedAs size stream (length m) (Some r) → Life r m xs fs r' m' → Able r' × (r'.stage ≡ S.Fresh)
 life_rests size stream m r o l =
     let e = opened_fresh size stream (length m) r o in
     rests l o.able (ap (λ (r : Receiver). r.stage) e) (sym (ap (λ (r : Receiver). r.limit) e))

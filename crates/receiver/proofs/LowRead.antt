@@ -2,7 +2,6 @@
 use mathlib.Core.Path.{ap, refl, subst, sym, ◌∙◌, ◌≡◌}
 use mathlib.Core.Logic.{inl, inr, ◌⊎◌}
 use mathlib.Core.Bool.{Bool, cond, false, true}
-use mathlib.Core.Option.{Option, none, some}
 use mathlib.Core.List.{List}
 use Prim.Native.Nat.{suc, zero, ℕ, ◌+◌, ◌≤◌}
 use native.Mathlib.Omega.{arith}
@@ -10,6 +9,7 @@ use lib.Dec.{eqb, leb, ltb}
 use lib.ListN.{drop, get_or, length, take}
 use lib.Seq.{get_or-drop}
 use borrow.Author.Tests.{eqb-false, eqb-true, leb-true}
+use Rattle.std.specs.Prelude.{None, Some, Option}
 use Rattle.golay.specs.Answers.{end_of}
 use Rattle.golay.specs.declared.End.{End}
 use Rattle.golay.specs.declared.End.TheVariants.{Neither, Ones, Zeros}
@@ -19,14 +19,12 @@ use Rattle.wire.specs.declared.Sort.{Sort}
 use Rattle.receiver.specs.declared.Find.{Find}
 use Rattle.receiver.specs.declared.kind.Kind.{Kind}
 use Rattle.receiver.specs.declared.kind.Kind.TheVariants.{Complete, Fill, First, Last, Middle, Reserved}
-use Rattle.receiver.specs.declared.low.Llep.{Llep}
-use Rattle.receiver.specs.declared.low.Llep.TheVariants.{Broken, Whole}
 use Rattle.receiver.specs.declared.low.Lows.{Lows}
 use Rattle.receiver.specs.Forecast.{start}
 use Rattle.receiver.specs.Kind.{kind_by, kind_of, piece_of}
 use Rattle.receiver.specs.Low.{begins, counting, ended, ends_by, llep, sized}
 use Rattle.receiver.specs.Lows.{and_then, lows, one_of, passed_of}
-use Rattle.receiver.proofs.Walking.{broken_else, inside_at}
+use Rattle.receiver.proofs.Walking.{broken_else, inside_at, same_header}
 use Rattle.wire.specs.declared.Sort.TheVariants as S
 use Rattle.receiver.specs.declared.Find.TheVariants as F
 use Rattle.receiver.specs.declared.low.Lows.TheVariants as L
@@ -38,7 +36,7 @@ EndsWell b = (end_of b ≡ Zeros) ⊎ (end_of b ≡ Ones)
 pub record WholeLlep (tp : List ℕ) (at : ℕ) (h : Header) : Type 0 where
   pub payload : 4 ≤ at
   pub inside : at + 7 + h.size ≤ length tp
-  pub header : header_of (take 6 (drop at tp)) ≡ some h
+  pub header : header_of (take 6 (drop at tp)) ≡ Some h
   pub complete : h.fragment ≡ 0
   pub known : (1 ≤ h.content) × (h.content ≤ 6)
   pub ended : EndsWell (get_or tp (at + 6 + h.size) 0)
@@ -63,27 +61,27 @@ LowOk tp at (F.Ordinary c n) = 0 ≤ 0
 
 -- what is read of an LLEP that isn't broken
 
-ended_well : (b : ℕ) (x : End) (g h : Header) (m : Bool) → end_of b ≡ x → ended x g ≡ Whole h m → (g ≡ h) × EndsWell b
-ended_well b Zeros g h m q e = (cc, inl q)
-ended_well b Ones g h m q e = (cc, inr q)
+ended_well : (b : ℕ) (x : End) (g h : Header) (m : Bool) → end_of b ≡ x → ended x g ≡ Some (h, m) → (g ≡ h) × EndsWell b
+ended_well b Zeros g h m q e = (same_header g h false m e, inl q)
+ended_well b Ones g h m q e = (same_header g h true m e, inr q)
 ended_well b Neither g h m q e = (cc, inl cc)
 
 -- the header as it is read, with which the flips of the end byte are counted
 pub record ReadAs (bs : List ℕ) (h : Header) : Type 0 where
   pub read : Header
-  pub header : header_of (take 6 bs) ≡ some read
+  pub header : header_of (take 6 bs) ≡ Some read
   pub counted : h ≡ counting (get_or bs (6 + read.size) 0) read
   pub ended : EndsWell (get_or bs (6 + read.size) 0)
 
-begins_read : (o : Option Header) (bs : List ℕ) (h : Header) (m : Bool) → header_of (take 6 bs) ≡ o → begins o bs ≡ Whole h m → ReadAs bs h
+begins_read : (o : Option Header) (bs : List ℕ) (h : Header) (m : Bool) → header_of (take 6 bs) ≡ o → begins o bs ≡ Some (h, m) → ReadAs bs h
 unfolding sized
-begins_read none bs h m q e = let z : ◌≡◌ {A = ℕ} 0 1 = cc in absurd (omega arith)
-begins_read (some g) bs h m q e =
+begins_read None bs h m q e = let z : ◌≡◌ {A = ℕ} 0 1 = cc in absurd (omega arith)
+begins_read (Some g) bs h m q e =
     let b = get_or bs (6 + g.size) 0 in
     let t = ended_well b (end_of b) (counting b g) h m refl (broken_else (ltb (length bs) (7 + g.size)) (ends_by b g) h m e).1 in
     record { read = g; header = q; counted = sym t.0; ended = t.1 }
 
-llep_read : (bs : List ℕ) (h : Header) (m : Bool) → llep bs ≡ Whole h m → ReadAs bs h
+llep_read : (bs : List ℕ) (h : Header) (m : Bool) → llep bs ≡ Some (h, m) → ReadAs bs h
 unfolding llep
 llep_read bs h m e = begins_read (header_of (take 6 bs)) bs h m refl (broken_else (ltb (length bs) 7) (begins (header_of (take 6 bs)) bs) h m e).1
 
@@ -136,7 +134,7 @@ LowsOk tp (L.Broken i) = 0 ≤ 0
 LowsOk tp (L.End i) = 0 ≤ 0
 LowsOk tp (L.Gives f e from more i) = LowOk tp from f
 
-passed_ok : (tp : List ℕ) (k : Kind) (h : Header) (m : Bool) (at : ℕ) (go : ℕ → Lows) → kind_of h ≡ k → 4 ≤ at → llep (drop at tp) ≡ Whole h m
+passed_ok : (tp : List ℕ) (k : Kind) (h : Header) (m : Bool) (at : ℕ) (go : ℕ → Lows) → kind_of h ≡ k → 4 ≤ at → llep (drop at tp) ≡ Some (h, m)
     → ((i : ℕ) → 4 ≤ i → LowsOk tp (go i)) → LowsOk tp (and_then (passed_of k h m at) go)
 passed_ok tp Fill h true at go q b e ih = ih (at + 7 + h.size) (omega arith)
 passed_ok tp Fill h false at go q b e ih = omega arith
@@ -164,9 +162,9 @@ passed_ok tp First h m at go q b e ih = omega arith
 passed_ok tp Middle h m at go q b e ih = omega arith
 passed_ok tp Last h m at go q b e ih = omega arith
 
-one_ok : (tp : List ℕ) (l : Llep) (at : ℕ) (go : ℕ → Lows) → 4 ≤ at → llep (drop at tp) ≡ l → ((i : ℕ) → 4 ≤ i → LowsOk tp (go i)) → LowsOk tp (and_then (one_of l at) go)
-one_ok tp Broken at go b q ih = omega arith
-one_ok tp (Whole h m) at go b q ih = passed_ok tp (kind_of h) h m at go refl b q ih
+one_ok : (tp : List ℕ) (l : Option (Header × Bool)) (at : ℕ) (go : ℕ → Lows) → 4 ≤ at → llep (drop at tp) ≡ l → ((i : ℕ) → 4 ≤ i → LowsOk tp (go i)) → LowsOk tp (and_then (one_of l at) go)
+one_ok tp None at go b q ih = omega arith
+one_ok tp (Some (h, m)) at go b q ih = passed_ok tp (kind_of h) h m at go refl b q ih
 
 pub lows_ok : (k : ℕ) (tp : List ℕ) (at : ℕ) → 4 ≤ at → LowsOk tp (lows k tp at)
 unfolding lows

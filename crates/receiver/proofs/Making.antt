@@ -8,6 +8,7 @@ use native.Mathlib.Omega.{arith}
 use lib.Dec.{eqb}
 use lib.ListN.{drop, length}
 use borrow.Author.Tests.{eq-eqb, eqb-false, eqb-true}
+use Rattle.std.specs.Prelude.{None, Option, Some, Err, Ok, Result}
 use Rattle.wire.specs.declared.Header.{Header}
 use Rattle.receiver.specs.declared.Find.{Find}
 use Rattle.receiver.specs.declared.Find.TheVariants as F
@@ -16,23 +17,14 @@ use Rattle.receiver.specs.declared.Receiver.{Receiver}
 use Rattle.receiver.specs.declared.Piece.{Piece}
 use Rattle.receiver.specs.declared.Stage.{Stage}
 use Rattle.receiver.specs.declared.Stage.TheVariants.{Due, Fresh, Low, Plain}
-use Rattle.receiver.specs.declared.Told.{Told}
-use Rattle.receiver.specs.declared.Told.TheVariants as T
 use Rattle.receiver.specs.declared.Turned as D
 use Rattle.receiver.specs.declared.entry.Top.{Top}
 use Rattle.receiver.specs.declared.entry.Top.TheVariants.{Dropped, Elsewhere, Says}
 use Rattle.receiver.specs.declared.kind.Kind.{Kind}
 use Rattle.receiver.specs.declared.kind.Kind.TheVariants as K
-use Rattle.receiver.specs.declared.low.Llep.{Llep}
-use Rattle.receiver.specs.declared.low.Llep.TheVariants.{Broken, Whole}
 use Rattle.receiver.specs.declared.low.Lows.{Lows}
 use Rattle.receiver.specs.declared.low.Lows.TheVariants as L
-use Rattle.receiver.specs.declared.outset.Offset.{Offset}
-use Rattle.receiver.specs.declared.outset.Offset.TheVariants.{Behind, Outside}
-use Rattle.receiver.specs.declared.outset.Start.{Start}
-use Rattle.receiver.specs.declared.outset.Start.TheVariants as S
 use Rattle.receiver.specs.declared.stages.Course.TheVariants as C
-use Rattle.receiver.specs.declared.walk.Kept.TheVariants.{Empty}
 use Rattle.receiver.specs.declared.walk.Turn.{Turn}
 use Rattle.receiver.specs.declared.walk.Turn.TheVariants.{More, Stop}
 use Rattle.receiver.specs.declared.walk.Walk.{Walk}
@@ -73,9 +65,9 @@ pub record Goes (gave : Gave) (r : Receiver) (tp m : List ℕ) (q : Receiver) (m
   pub limit : q.limit ≡ r.limit
   pub room : length m' ≡ length m
 
-abbrev pub Made : Told → About → Gave → Receiver → List ℕ → List ℕ → Receiver → List ℕ → Type 0
-Made T.More a gave r tp m q m' = Goes gave r tp m q m'
-Made (T.Gives f) a gave r tp m q m' = Gives gave (record { receiver = q; find = f; about = a }) tp m'
+abbrev pub Made : Option Find → About → Gave → Receiver → List ℕ → List ℕ → Receiver → List ℕ → Type 0
+Made None a gave r tp m q m' = Goes gave r tp m q m'
+Made (Some f) a gave r tp m q m' = Gives gave (record { receiver = q; find = f; about = a }) tp m'
 
 abbrev pub MadeBy : D.Turned → Gave → Receiver → List ℕ → List ℕ → Type 0
 MadeBy t gave r tp m = Made t.told t.about gave r tp m t.receiver (put_of t.piece tp m)
@@ -127,7 +119,7 @@ module _ (r : Receiver) (tp m : List ℕ) (able : Able r) (whole : length tp ≡
     l = in_stage (Low o)
 
     found : (f : Find) (e : ℕ) (more : Bool) (i : ℕ) → 4 ≤ i → i ≤ length tp
-        → Made (T.Gives f) (record { repaired = e; at = place_at t at }) (low_call (L.Gives f e at more i) l t o tp m) l tp m
+        → Made (Some f) (record { repaired = e; at = place_at t at }) (low_call (L.Gives f e at more i) l t o tp m) l tp m
         (on l t (cond more (Low o) (Due o)) i o tp m) m
     found f e more i a b = low_gives l t tp m able.size whole full o f e at more i at z.0 a b able.walk z.2
 
@@ -145,7 +137,7 @@ module _ (r : Receiver) (tp m : List ℕ) (able : Able r) (whole : length tp ≡
     }
       where
         same : (more : Bool) → staged (on l t (cond more (Low o) (Due o)) (at + 7 + h.size) o tp m) tp m
-            ≡ low_call (and_then (passed_by T.More 0 at more (at + 7 + h.size)) (λ i. lows (length tp) tp i)) l t o tp m
+            ≡ low_call (and_then (passed_by None 0 at more (at + 7 + h.size)) (λ i. lows (length tp) tp i)) l t o tp m
         same true =
             low_same l t (Low o) (at + 7 + h.size) o tp m (lows_of tp (at + 7 + h.size))
             ∙ ap (λ (x : Lows). low_call x l t o tp m) (lows_free (suc (length tp)) (length tp) tp (at + 7 + h.size) (omega arith) (omega arith))
@@ -156,10 +148,10 @@ module _ (r : Receiver) (tp m : List ℕ) (able : Able r) (whole : length tp ≡
     kind_made K.Middle h more b = found (F.Notice 16) 0 more (at + 7 + h.size) (omega (arith, z.1)) b
     kind_made K.Last h more b = found (F.Notice 16) 0 more (at + 7 + h.size) (omega (arith, z.1)) b
 
-    llep_by : (x : Llep) → llep (drop at tp) ≡ x → MadeBy (llep_turn x l o (length tp)) (low_call (and_then (one_of x at) (λ i. lows (length tp) tp i)) l t o tp m) l tp m
+    llep_by : (x : Option (Header × Bool)) → llep (drop at tp) ≡ x → MadeBy (llep_turn x l o (length tp)) (low_call (and_then (one_of x at) (λ i. lows (length tp) tp i)) l t o tp m) l tp m
     unfolding put_of
-    llep_by Broken e = let b = able.walk.at in drop_gives l t tp m able.size whole full 11 (place_at t at) at (omega arith)
-    llep_by (Whole h more) e = kind_made (kind_of h) h more (inside_at tp at h more e)
+    llep_by None e = let b = able.walk.at in drop_gives l t tp m able.size whole full 11 (place_at t at) at (omega arith)
+    llep_by (Some (h, more)) e = kind_made (kind_of h) h more (inside_at tp at h more e)
 
     llep_made : MadeBy (llep_turn (llep (drop at tp)) l o (length tp)) (low_call (lows_of tp at) l t o tp m) l tp m
     unfolding lows_of lows
@@ -176,15 +168,15 @@ module _ (r : Receiver) (tp m : List ℕ) (able : Able r) (whole : length tp ≡
     in_tp_lem : r.walk.at ≤ length tp
     in_tp_lem = let b = able.walk.at in omega arith
 
-    out_made : (n : ℕ) (s : Start) → place_of o r.walk.at (length tp) ≡ Behind n → set_out_of r.walk n tp ≡ s
+    out_made : (n : ℕ) (s : Result Walk ℕ) → place_of o r.walk.at (length tp) ≡ Ok n → set_out_of r.walk n tp ≡ s
         → MadeBy (out_turn s d n (length tp)) (due_call d t o r.walk.at tp m) d tp m
     unfolding put_of Leads
-    out_made n (S.Loses i) p e =
+    out_made n (Err i) p e =
         let b = behind_in o r.walk.at (length tp) n in_tp_lem p in
         due_behind d t o r.walk.at tp lent
-        (C.Gives (step_of d Plain (r.walk.at + n) (upon_of (r.walk.at + n) (length tp)) Empty (F.Notice i) (lost_at i t r.walk.began))) n p
+        (C.Gives (step_of d Plain (r.walk.at + n) (upon_of (r.walk.at + n) (length tp)) None (F.Notice i) (lost_at i t r.walk.began))) n p
         (set_loses d t r.walk.at n tp (set_out_of r.walk n tp) lent i (upon_of (r.walk.at + n) (length tp)) b refl refl e) m full
-    out_made n (S.Reads x) p e =
+    out_made n (Ok x) p e =
         let b = behind_in o r.walk.at (length tp) n in_tp_lem p in
         let g : Onward (due_call d t o r.walk.at tp) d t tp x =
         due_behind d t o r.walk.at tp lent (C.Reads x) n p (set_reads d t r.walk.at n tp (set_out_of r.walk n tp) lent x b refl e) in
@@ -196,10 +188,10 @@ module _ (r : Receiver) (tp m : List ℕ) (able : Able r) (whole : length tp ≡
           room = refl;
         }
 
-    due_made : (p : Offset) → place_of o r.walk.at (length tp) ≡ p → MadeBy (due_turn p d tp) (due_call d t o r.walk.at tp m) d tp m
+    due_made : (p : Result ℕ ℕ) → place_of o r.walk.at (length tp) ≡ p → MadeBy (due_turn p d tp) (due_call d t o r.walk.at tp m) d tp m
     unfolding put_of Leads
-    due_made (Outside n) e = due_outside d t o r.walk.at tp lent n e m full
-    due_made (Behind n) e = out_made n (set_out_of r.walk n tp) e refl
+    due_made (Err n) e = due_outside d t o r.walk.at tp lent n e m full
+    due_made (Ok n) e = out_made n (set_out_of r.walk n tp) e refl
 
   -- among ordinary bytes
   module _ (bytes : Bytes tp) where
@@ -248,13 +240,13 @@ unfolding call_of call_as
 call_staged r tp m f w = rw (eq-eqb (length m) r.limit f, eq-eqb (length tp) r.size w)
 
 module _ (r : Receiver) (tp m : List ℕ) (whole : length tp ≡ r.size) (full : length m ≡ r.limit) where
-  makes_by : (t : Told) (a : About) (q : Receiver) (m' : List ℕ) → Made t a (staged r tp m) r tp m q m' → Makes t a r tp m q m'
-  makes_by T.More a q m' d = (d.room ∙ full ∙ sym d.limit, sym (call_staged q tp m' (d.room ∙ full ∙ sym d.limit) (whole ∙ sym d.size)) ∙ d.same ∙ call_staged r tp m full whole)
-  makes_by (T.Gives f) a q m' d = subst (λ (x : Gave). Gives x (record { receiver = q; find = f; about = a }) tp m') (call_staged r tp m full whole) d
+  makes_by : (t : Option Find) (a : About) (q : Receiver) (m' : List ℕ) → Made t a (staged r tp m) r tp m q m' → Makes t a r tp m q m'
+  makes_by None a q m' d = (d.room ∙ full ∙ sym d.limit, sym (call_staged q tp m' (d.room ∙ full ∙ sym d.limit) (whole ∙ sym d.size)) ∙ d.same ∙ call_staged r tp m full whole)
+  makes_by (Some f) a q m' d = subst (λ (x : Gave). Gives x (record { receiver = q; find = f; about = a }) tp m') (call_staged r tp m full whole) d
 
-pub able_by : (t : Told) (a : About) (x : Gave) (r : Receiver) (tp m : List ℕ) (q : Receiver) (m' : List ℕ) → Made t a x r tp m q m' → Able q
-able_by T.More a x r tp m q m' d = d.able
-able_by (T.Gives f) a x r tp m q m' d = d.able
+pub able_by : (t : Option Find) (a : About) (x : Gave) (r : Receiver) (tp m : List ℕ) (q : Receiver) (m' : List ℕ) → Made t a x r tp m q m' → Able q
+able_by None a x r tp m q m' d = d.able
+able_by (Some f) a x r tp m q m' d = d.able
 
 -- THE TURNS MAKE THE CALL
 pub turn_makes : (r : Receiver) (tp m : List ℕ) → Able r → Bytes tp → length m ≡ r.limit

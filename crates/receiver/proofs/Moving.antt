@@ -1,11 +1,11 @@
 -- A receiver moved on with what it keeps asks for the same call, and so does a low-latency walk counted otherwise.
 -- Assumes nothing.
 use mathlib.Core.Path.{refl, ◌≡◌}
-use mathlib.Core.Option.{Option, none, some}
 use mathlib.Core.List.{List}
 use Prim.Native.Nat.{suc, zero, ℕ, ◌-◌, ◌<◌}
 use native.Mathlib.Omega.{arith}
 use lib.ListN.{drop, length}
+use Rattle.std.specs.Prelude.{None, Option, Some}
 use Rattle.receiver.specs.declared.Receiver.{Receiver}
 use Rattle.receiver.specs.declared.Stamp.{Stamp}
 use Rattle.receiver.specs.Pieces.{receiver_with}
@@ -46,10 +46,10 @@ module _ (r : Receiver) (s : Stage) (w : Walk) where
   to = receiver_with r s w
 
   plain_same : (x : Option (Finding wire)) (t : Stamp) (p : Pulled wire) → ordinary_by x to t p ≡ ordinary_by x r t p
-  plain_same none t p = refl
-  plain_same (some (notice n g)) t p = refl
-  plain_same (some (low c d)) t p = refl
-  plain_same (some (ordinary c d)) t p = refl
+  plain_same None t p = refl
+  plain_same (Some (notice n g)) t p = refl
+  plain_same (Some (low c d)) t p = refl
+  plain_same (Some (ordinary c d)) t p = refl
 
   pub ordinary_call_same : (t : Stamp) (p : Pulled wire) → ordinary_call to t p ≡ ordinary_call r t p
   ordinary_call_same t p = plain_same p.find t p

@@ -9,6 +9,7 @@ use native.Mathlib.Omega.{arith}
 use lib.Dec.{eqb}
 use lib.ListN.{get_or, length, replicate, length-replicate}
 use borrow.Author.Tests.{eq-eqb, ne_eqb}
+use Rattle.std.specs.Prelude.{None, Option}
 use Rattle.receiver.specs.declared.Find.{Find}
 use Rattle.receiver.specs.declared.Find.TheVariants as F
 use Rattle.receiver.specs.declared.Place.{Place}
@@ -30,18 +31,16 @@ use Rattle.receiver.specs.declared.swift.Part.TheVariants as P
 use Rattle.receiver.specs.declared.swift.Spot.{Spot}
 use Rattle.receiver.specs.declared.swift.Spot.TheVariants as T
 use Rattle.receiver.specs.declared.swift.Swift.{Swift}
-use Rattle.receiver.specs.declared.swift.Swift.TheVariants as S
-use Rattle.receiver.specs.declared.walk.Kept.TheVariants.{Empty, Of}
 use Rattle.receiver.specs.declared.walk.Phase.{Phase}
 use Rattle.receiver.specs.declared.walk.Phase.TheVariants.{Lost, Head, Body}
 use Rattle.receiver.specs.declared.walk.Walk.{Walk}
 use Rattle.receiver.specs.Call.{Gave, Gives, call_of, count_in}
-use Rattle.receiver.specs.InSwift.{BehindMet, Done, DueAs, GoesAs, LaneAs, Lent, LowPartAs, OnAs, PartAs, PartBy, SpotAs, Stands, Suits, SwiftAs, TidyMet, ToldAs, count_by, first_spot, made_of, plain_spot}
+use Rattle.receiver.specs.InSwift.{BehindMet, Done, DueAs, GoesAs, LaneAs, Lent, LowPartAs, OnAs, PartAs, PartBy, SpotAs, Stands, Suits, SwiftAs, TidyMet, ToldAs, count_by, first_spot, made_of, plain_spot, told}
 use Rattle.receiver.specs.Lanes.{AheadAs, FirstAs, Lends, LowAs, MetAs, OutAs, Tidy, call_by, complete_of, ends_in, in_lane, loss_end, step_to, walk_in}
 use Rattle.receiver.specs.Lows.{lows_of}
 use Rattle.receiver.specs.Pieces.{none_of, top_of}
 use Rattle.receiver.specs.Place.{count_of, own_of, place_at, start_of}
-use Rattle.receiver.specs.State.{Able, Fine, Staged}
+use Rattle.receiver.specs.State.{Able, Fine, Staged, kept_by}
 use Rattle.receiver.specs.Turns.{walk_at}
 use Rattle.receiver.specs.Words.{Bytes, fitb, head_words, joined, kept_in, kept_words, phase_in, phase_words, place_in, place_words, receiver_in, stage_in, stage_words, words_of}
 use Rattle.receiver.proofs.LaneAhead.{lost_call}
@@ -73,7 +72,7 @@ plain_in s o e f g = rw (ne_eqb s 0 e, ne_eqb s 1 f, ne_eqb s 2 g)
 stands : (r : Receiver) (l : Lane) → r.walk ≡ walk_in r.walk.began l r.walk.at → Tidy r.limit l → Stands l r
 stands r l e t = (ap (made_of r r.count r.stage) e, t)
 
-unkept : (v : Walk) (p : Phase) → v.phase ≡ p → v.kept ≡ Empty → v ≡ walk_at v.at p v.began Empty
+unkept : (v : Walk) (p : Phase) → v.phase ≡ p → v.kept ≡ None → v ≡ walk_at v.at p v.began None
 unkept v p e f = ap (λ (x : Phase). walk_at v.at x v.began v.kept) e ∙ ap (walk_at v.at p v.began) f
 
 module _ (ws : List ℕ) where
@@ -116,7 +115,7 @@ module _ (ws : List ℕ) where
   unfolding receiver_in
   stage_plain e f g = plain_in (get_or ws 5 0) (get_or ws 6 0) e f g
 
-  kept_none : get_or ws 16 0 ≡ 0 → r.walk.kept ≡ Empty
+  kept_none : get_or ws 16 0 ≡ 0 → r.walk.kept ≡ None
   unfolding receiver_in kept_in
   kept_none e = rw e
 
@@ -285,12 +284,12 @@ module _ (ws : List ℕ) (fit : fitb ws ≡ true) (count : ℕ) (stage : Stage) 
   pub put_lost : (l : Lane) → l ≡ L.Lost
       → Puts (get_or ws 0 0 ∷ get_or ws 1 0 ∷ get_or ws 2 0 ∷ count ∷ at ∷ s ∷ o ∷ 0 ∷ 0 ∷ 0 ∷ 0 ∷ 0 ∷ 0 ∷ 0 ∷ 0 ∷ 0 ∷ 0 ∷ 0 ∷ 0 ∷ 0 ∷ 0 ∷ 0 ∷ 0 ∷ []) l
   unfolding words_of
-  put_lost l q = puts l L.Lost _ q (row (phase_words Lost (receiver_in ws).walk.began) (kept_words Empty)) (record { phase = omega arith; kept = omega arith })
+  put_lost l q = puts l L.Lost _ q (row (phase_words Lost (receiver_in ws).walk.began) (kept_words None)) (record { phase = omega arith; kept = omega arith })
 
   pub put_idle : (l : Lane) → l ≡ L.Idle
       → Puts (get_or ws 0 0 ∷ get_or ws 1 0 ∷ get_or ws 2 0 ∷ count ∷ at ∷ s ∷ o ∷ 1 ∷ 0 ∷ 0 ∷ 0 ∷ 0 ∷ 0 ∷ 0 ∷ 0 ∷ 0 ∷ 0 ∷ 0 ∷ 0 ∷ 0 ∷ 0 ∷ 0 ∷ 0 ∷ []) l
   unfolding words_of head_words
-  put_idle l q = puts l L.Idle _ q (row (phase_words (Head 0 0) (receiver_in ws).walk.began) (kept_words Empty)) (record { phase = omega arith; kept = omega arith })
+  put_idle l q = puts l L.Idle _ q (row (phase_words (Head 0 0) (receiver_in ws).walk.began) (kept_words None)) (record { phase = omega arith; kept = omega arith })
 
   pub put_cut : (l : Lane) (cap : ℕ) (p : Place) (n w : ℕ) → l ≡ L.Cut p n w → Tidy cap l
       → Puts (get_or ws 0 0 ∷ get_or ws 1 0 ∷ get_or ws 2 0 ∷ count ∷ at ∷ s ∷ o ∷ 1 ∷ n ∷ w ∷ 0 ∷ 0 ∷ 0 ∷ p.stamp.number ∷ p.stamp.byte ∷ p.at ∷ 0 ∷ 0 ∷ 0 ∷ 0 ∷ 0 ∷ 0 ∷ 0 ∷ []) l
@@ -299,15 +298,15 @@ module _ (ws : List ℕ) (fit : fitb ws ≡ true) (count : ℕ) (stage : Stage) 
       let tidy = tidy_as cap l (L.Cut p n w) q y in
       let z : eqb n 0 ≡ false = ne_eqb n 0 (λ (x : n ≡ 0). omega (arith, x, tidy.0)) in
       puts l (L.Cut p n w) _ q
-      (row (1 ∷ n ∷ w ∷ 0 ∷ 0 ∷ 0 ∷ place_words p) (kept_words Empty)
-      ∙ ap (λ (x : Bool). joined (receiver_in ws).size (receiver_in ws).stream (receiver_in ws).limit count at (stage_words stage) (cond x (1 ∷ 0 ∷ w ∷ 0 ∷ 0 ∷ 0 ∷ 0 ∷ 0 ∷ 0 ∷ []) (1 ∷ n ∷ w ∷ 0 ∷ 0 ∷ 0 ∷ place_words p)) (kept_words Empty)) (sym z))
+      (row (1 ∷ n ∷ w ∷ 0 ∷ 0 ∷ 0 ∷ place_words p) (kept_words None)
+      ∙ ap (λ (x : Bool). joined (receiver_in ws).size (receiver_in ws).stream (receiver_in ws).limit count at (stage_words stage) (cond x (1 ∷ 0 ∷ w ∷ 0 ∷ 0 ∷ 0 ∷ 0 ∷ 0 ∷ 0 ∷ []) (1 ∷ n ∷ w ∷ 0 ∷ 0 ∷ 0 ∷ place_words p)) (kept_words None)) (sym z))
       (record { phase = omega arith; kept = omega arith })
 
   pub put_busy : (l : Lane) (p : Place) (left len c x : ℕ) → l ≡ L.Busy p left len c x → c < 256 → x < 256
       → Puts (get_or ws 0 0 ∷ get_or ws 1 0 ∷ get_or ws 2 0 ∷ count ∷ at ∷ s ∷ o ∷ 3 ∷ c ∷ 0 ∷ (len + left) ∷ x ∷ left ∷ p.stamp.number ∷ p.stamp.byte ∷ p.at ∷ 1 ∷ c ∷ x ∷ len ∷ p.stamp.number ∷ p.stamp.byte ∷ p.at ∷ []) l
   unfolding words_of
   put_busy l p left len c x q a b =
-      puts l (L.Busy p left len c x) _ q (row (phase_words (Body (complete_of c (len + left) x) left) p) (kept_words (Of c x p len)))
+      puts l (L.Busy p left len c x) _ q (row (phase_words (Body (complete_of c (len + left) x) left) p) (kept_words (kept_by c x p len)))
       (record { phase = (a, omega arith, b); kept = a })
 
 -- ---- what a call comes to
@@ -347,21 +346,21 @@ done : (r : Receiver) (tp m₀ m w : List ℕ) (q : Step) → Gives (call_of r t
 done r tp m₀ m w q g e b = record { step = q; gives = g; bytes = b; state = e; find = refl; about = refl }
 
 module _ (r : Receiver) (k len : ℕ) (w₀ w : List ℕ) where
-  behind_as : (q : Swift) (x y : Met) → x ≡ y → BehindMet q y r k len w₀ w → BehindMet q x r k len w₀ w
+  behind_as : (q : Option Swift) (x y : Met) → x ≡ y → BehindMet q y r k len w₀ w → BehindMet q x r k len w₀ w
   behind_as q x y e d = subst (λ (z : Met). BehindMet q z r k len w₀ w) (sym e) d
 
   pub behind_ends : (x : Met) (l : Lane) → x ≡ M.Ends l → w ≡ words_of (in_lane r k l Fresh 0) → Bytes (in_lane r k l Fresh 0)
-      → BehindMet (S.Gives F.Nothing (none_of (start_of (own_of k)))) x r k len w₀ w
-  behind_ends x l e f b = behind_as (S.Gives F.Nothing (none_of (start_of (own_of k)))) x (M.Ends l) e (λ tp m₀ m z d. done r tp m₀ m w (ends_in (in_lane r k l Fresh 0) (own_of k)) d.0 f b)
+      → BehindMet (told F.Nothing (none_of (start_of (own_of k)))) x r k len w₀ w
+  behind_ends x l e f b = behind_as (told F.Nothing (none_of (start_of (own_of k)))) x (M.Ends l) e (λ tp m₀ m z d. done r tp m₀ m w (ends_in (in_lane r k l Fresh 0) (own_of k)) d.0 f b)
 
   pub behind_gives : (x : Met) (c e : ℕ) (p : Place) (n end : ℕ) → x ≡ M.Gives c e p n end → w ≡ words_of (in_lane r k L.Idle Plain end) → Bytes (in_lane r k L.Idle Plain end)
-      → BehindMet (S.Gives (F.Ordinary c n) (record { repaired = e; at = p })) x r k len w₀ w
+      → BehindMet (told (F.Ordinary c n) (record { repaired = e; at = p })) x r k len w₀ w
   behind_gives x c e p n end g f b =
-      behind_as (S.Gives (F.Ordinary c n) (record { repaired = e; at = p })) x (M.Gives c e p n end) g
+      behind_as (told (F.Ordinary c n) (record { repaired = e; at = p })) x (M.Gives c e p n end) g
       (λ tp m₀ m z d. done r tp m₀ m w (step_to (in_lane r k L.Idle Plain end) (F.Ordinary c n) (record { repaired = e; at = p })) d.0 f b)
 
   drops_behind : (n : ℕ) → (n ≡ 12 → ⊥) → w ≡ words_of (in_lane r k L.Lost Plain len) → Bytes (in_lane r k L.Lost Plain len)
-      → BehindMet (S.Gives (F.Notice n) (none_of (start_of (own_of k)))) (M.Drops n) r k len w₀ w
+      → BehindMet (told (F.Notice n) (none_of (start_of (own_of k)))) (M.Drops n) r k len w₀ w
   drops_behind n z f b tp m₀ m e d =
       let x = d.1 in
       let place : x.place ≡ 4 = subst (λ (y : Bool). cond y (0 ≤ 0) (x.place ≡ 4)) (ne_eqb n 12 z) (subst (λ (y : Bool). cond y (0 ≤ 0) (cond (eqb n 12) (0 ≤ 0) (x.place ≡ 4))) d.2 x.met) in
@@ -377,19 +376,19 @@ module _ (r : Receiver) (k len : ℕ) (w₀ w : List ℕ) where
       }
 
   pub behind_drops : (x : Met) (n : ℕ) → x ≡ M.Drops n → (n ≡ 12 → ⊥) → w ≡ words_of (in_lane r k L.Lost Plain len) → Bytes (in_lane r k L.Lost Plain len)
-      → BehindMet (S.Gives (F.Notice n) (none_of (start_of (own_of k)))) x r k len w₀ w
-  behind_drops x n g z f b = behind_as (S.Gives (F.Notice n) (none_of (start_of (own_of k)))) x (M.Drops n) g (drops_behind n z f b)
+      → BehindMet (told (F.Notice n) (none_of (start_of (own_of k)))) x r k len w₀ w
+  behind_drops x n g z f b = behind_as (told (F.Notice n) (none_of (start_of (own_of k)))) x (M.Drops n) g (drops_behind n z f b)
 
 -- what is left to a call by value
 module _ (r : Receiver) (k len : ℕ) (w : List ℕ) (x : Met) where
-  pub behind_other : x ≡ M.Other → BehindMet S.Other x r k len w w
-  behind_other e = behind_as r k len w w S.Other x M.Other e (λ tp m₀ m z d. (refl, d))
+  pub behind_other : x ≡ M.Other → BehindMet None x r k len w w
+  behind_other e = behind_as r k len w w None x M.Other e (λ tp m₀ m z d. (refl, d))
 
-  pub behind_judged : (n : ℕ) → x ≡ M.Drops n → BehindMet S.Other x r k len w w
-  behind_judged n e = behind_as r k len w w S.Other x (M.Drops n) e (λ tp m₀ m z d. (refl, d.0))
+  pub behind_judged : (n : ℕ) → x ≡ M.Drops n → BehindMet None x r k len w w
+  behind_judged n e = behind_as r k len w w None x (M.Drops n) e (λ tp m₀ m z d. (refl, d.0))
 
-  pub behind_reads : (i : ℕ) → x ≡ M.Reads i → BehindMet S.Other x r k len w w
-  behind_reads i e = behind_as r k len w w S.Other x (M.Reads i) e (λ tp m₀ m z d. (refl, d.0))
+  pub behind_reads : (i : ℕ) → x ≡ M.Reads i → BehindMet None x r k len w w
+  behind_reads i e = behind_as r k len w w None x (M.Reads i) e (λ tp m₀ m z d. (refl, d.0))
 
 pub ends_tidy : (cap : ℕ) (x : Met) (l : Lane) → x ≡ M.Ends l → TidyMet cap x → Tidy cap l
 ends_tidy cap x l e d = subst (TidyMet cap) e d
@@ -414,12 +413,12 @@ module _ (r : Receiver) (k : ℕ) (l : Lane) (o at : ℕ) (tp w₀ w : List ℕ)
 
   pub low_gives : (f : Find) (n from : ℕ) (more : Bool) (end : ℕ) → lows_of tp at ≡ W.Gives f n from more end
       → w ≡ words_of (in_lane r k l (cond more (Low o) (Due o)) end) → Bytes (in_lane r k l (cond more (Low o) (Due o)) end)
-      → LowPartAs (P.Told (S.Gives f (record { repaired = n; at = place_at (own_of k) from }))) r k l o at tp w₀ w
+      → LowPartAs (P.Told (told f (record { repaired = n; at = place_at (own_of k) from }))) r k l o at tp w₀ w
   low_gives f n from more end e s b m full c =
       done r tp m m w (step_to (in_lane r k l (cond more (Low o) (Due o)) end) f (record { repaired = n; at = place_at (own_of k) from })) (low (W.Gives f n from more end) e m full c).0 s b
 
   pub low_drops : (i : ℕ) → lows_of tp at ≡ W.Broken i → w ≡ words_of (in_lane r k L.Lost Plain (length tp)) → Bytes (in_lane r k L.Lost Plain (length tp))
-      → LowPartAs (P.Told (S.Gives (F.Notice 11) (none_of (place_at (own_of k) i)))) r k l o at tp w₀ w
+      → LowPartAs (P.Told (told (F.Notice 11) (none_of (place_at (own_of k) i)))) r k l o at tp w₀ w
   low_drops i e s b m full c =
       let y = low_broken r k l o at (own_of k) tp m (lends m full) i e in
       let x = y.0 in
@@ -438,15 +437,15 @@ module _ (r : Receiver) (k : ℕ) (l : Lane) (tp w₀ w : List ℕ) (s : Spot) (
   spotted x e m full =
       subst (λ (n : ℕ). SpotAs x r n l (call_of r tp m) tp m) (sym count) (subst (λ (y : Spot). SpotAs y r (count_by r) l (call_of r tp m) tp m) e (goes m full))
 
-  pub part_other : PartAs (P.Told S.Other) r k l tp w₀ w₀
+  pub part_other : PartAs (P.Told None) r k l tp w₀ w₀
   part_other m full = (refl, refl)
 
   pub part_gone : (n : ℕ) → s ≡ T.Gone n → w ≡ words_of (in_lane r k L.Lost Fresh 0) → Bytes (in_lane r k L.Lost Fresh 0)
-      → PartAs (P.Told (S.Gives (F.Notice n) (none_of (start_of (own_of k))))) r k l tp w₀ w
+      → PartAs (P.Told (told (F.Notice n) (none_of (start_of (own_of k))))) r k l tp w₀ w
   part_gone n e f b m full = done r tp m m w (step_to (in_lane r k L.Lost Fresh 0) (F.Notice n) (none_of (start_of (own_of k)))) (spotted (T.Gone n) e m full) f b
 
   pub part_over : s ≡ T.Over → w ≡ words_of (in_lane r k L.Lost Fresh 0) → Bytes (in_lane r k L.Lost Fresh 0)
-      → PartAs (P.Told (S.Gives F.Nothing (none_of (start_of (own_of k))))) r k l tp w₀ w
+      → PartAs (P.Told (told F.Nothing (none_of (start_of (own_of k))))) r k l tp w₀ w
   part_over e f b m full = done r tp m m w (ends_in (in_lane r k L.Lost Fresh 0) (own_of k)) (spotted T.Over e m full) f b
 
   pub part_on : PartAs (P.On s) r k l tp w₀ w₀
@@ -463,7 +462,7 @@ pub again_gives : (ws : List ℕ) (l : Lane) (tp w : List ℕ) → fitb ws ≡ t
     → (f : Find) (n from : ℕ) (more : Bool) (end : ℕ) → lows_of tp (get_or ws 4 0) ≡ W.Gives f n from more end
     → w ≡ words_of (in_lane (receiver_in ws) (get_or ws 3 0) l (cond more (Low (get_or ws 6 0)) (Due (get_or ws 6 0))) end)
     → Bytes (in_lane (receiver_in ws) (get_or ws 3 0) l (cond more (Low (get_or ws 6 0)) (Due (get_or ws 6 0))) end)
-    → ToldAs (S.Gives f (record { repaired = n; at = place_at (own_of (get_or ws 3 0)) from })) (receiver_in ws) tp ws w
+    → ToldAs (told f (record { repaired = n; at = place_at (own_of (get_or ws 3 0)) from })) (receiver_in ws) tp ws w
 again_gives ws l tp w fit z whole s f n from more end e p b =
     let r = receiver_in ws in
     let k = get_or ws 3 0 in
@@ -472,25 +471,25 @@ again_gives ws l tp w fit z whole s f n from more end e p b =
     let count = count_later ws (λ (x : get_or ws 5 0 ≡ 0). omega (arith, x, z)) in
     let goes = goes_low ws l tp fit s whole z in
     let bounds = low_bounds r k l tp ws w (T.Low o at) count goes o at refl in
-    part_low r k l tp ws w (T.Low o at) count goes o at refl (P.Told (S.Gives f (record { repaired = n; at = place_at (own_of k) from })))
+    part_low r k l tp ws w (T.Low o at) count goes o at refl (P.Told (told f (record { repaired = n; at = place_at (own_of k) from })))
     (low_gives r k l o at tp ws w (fits ws fit).able.size s.1 whole bounds.0 bounds.1 bounds.2 f n from more end e p b)
 
 -- with the room that is lent
-pub told_as : (r : Receiver) (tp m w₀ w : List ℕ) → length m ≡ r.limit → (q x : Swift) → q ≡ x → ToldAs q r tp w₀ w → SwiftAs x r w₀ tp m w m
-told_as r tp m w₀ w full q x e t = subst (λ (y : Swift). SwiftAs y r w₀ tp m w m) e (t m full)
+pub told_as : (r : Receiver) (tp m w₀ w : List ℕ) → length m ≡ r.limit → (q x : Option Swift) → q ≡ x → ToldAs q r tp w₀ w → SwiftAs x r w₀ tp m w m
+told_as r tp m w₀ w full q x e t = subst (λ (y : Option Swift). SwiftAs y r w₀ tp m w m) e (t m full)
 
-pub told_same : (r : Receiver) (tp m w₀ w : List ℕ) → length m ≡ r.limit → (q : Swift) → q ≡ S.Other → ToldAs q r tp w₀ w → w ≡ w₀
-told_same r tp m w₀ w full q e t = (told_as r tp m w₀ w full q S.Other e t).0
+pub told_same : (r : Receiver) (tp m w₀ w : List ℕ) → length m ≡ r.limit → (q : Option Swift) → q ≡ None → ToldAs q r tp w₀ w → w ≡ w₀
+told_same r tp m w₀ w full q e t = (told_as r tp m w₀ w full q None e t).0
 
 -- a call on the same words
-pub swift_on : (ws v : List ℕ) → v ≡ ws → (q : Swift) (tp m₀ w m : List ℕ) → SwiftAs q (receiver_in v) v tp m₀ w m → SwiftAs q (receiver_in ws) ws tp m₀ w m
+pub swift_on : (ws v : List ℕ) → v ≡ ws → (q : Option Swift) (tp m₀ w m : List ℕ) → SwiftAs q (receiver_in v) v tp m₀ w m → SwiftAs q (receiver_in ws) ws tp m₀ w m
 swift_on ws v e q tp m₀ w m d = subst (λ (x : List ℕ). SwiftAs q (receiver_in x) x tp m₀ w m) e d
 
 -- ---- all of it
 
 module _ (ws w : List ℕ) (k : ℕ) (l : Lane) (tp m₀ m₁ m₂ : List ℕ) (fit : fitb ws ≡ true) (whole : length tp ≡ (receiver_in ws).size) (full : length m₀ ≡ (receiver_in ws).limit) (p : Part)
     (part : PartAs p (receiver_in ws) k l tp ws w) where
-  pub laned_told : (q : Swift) → p ≡ P.Told q → SwiftAs q (receiver_in ws) ws tp m₀ w m₀
+  pub laned_told : (q : Option Swift) → p ≡ P.Told q → SwiftAs q (receiver_in ws) ws tp m₀ w m₀
   laned_told q e = subst (λ (x : Part). PartBy x (receiver_in ws) k l tp m₀ ws w) e (part m₀ full)
 
   module _ (s : Spot) (e : p ≡ P.On s) (x y : Met) (due : DueAs x s l tp m₀ m₁) (on : OnAs y x k tp m₁ m₂) where
@@ -508,5 +507,5 @@ module _ (ws w : List ℕ) (k : ℕ) (l : Lane) (tp m₀ m₁ m₂ : List ℕ) (
         subst (λ (v : List ℕ). (fitb v ≡ true) × TidyMet (receiver_in v).limit y) (sym goes.0)
         (fit, tidy_met (receiver_in ws) k (own_of k) (call_of (receiver_in ws) tp m₀) tp m₀ m₂ y meets)
 
-    pub laned_behind : (q : Swift) (len : ℕ) (w' : List ℕ) → len ≡ length tp → BehindMet q y (receiver_in w) k len w w' → SwiftAs q (receiver_in ws) ws tp m₀ w' m₂
+    pub laned_behind : (q : Option Swift) (len : ℕ) (w' : List ℕ) → len ≡ length tp → BehindMet q y (receiver_in w) k len w w' → SwiftAs q (receiver_in ws) ws tp m₀ w' m₂
     laned_behind q len w' z d = subst (λ (v : List ℕ). BehindMet q y (receiver_in v) k len v w') goes.0 d tp m₀ m₂ z meets

@@ -1,10 +1,10 @@
 -- THE SUPPORT DESK'S SENTENCE: whatever is handed out as one packet was read, all of it, in step, from one EP or from one
 -- unbroken series of pieces of one content, with no loss of step, no gap and no other EP between them. Assumes nothing.
 use mathlib.Core.Path.{subst, ◌≡◌}
-use mathlib.Core.Option.{some}
 use mathlib.Core.List.{List, [], ◌++◌, ◌∷◌}
 use Prim.Native.Nat.{ℕ}
 use native.Mathlib.Omega.{arith}
+use Rattle.std.specs.Prelude.{Some}
 use Rattle.receiver.specs.Frame.{Event, lost}
 use Rattle.receiver.specs.Join.{free, holding, ordinary, take_in}
 use Rattle.receiver.specs.Low.{Tag, wire}
@@ -24,7 +24,7 @@ split_flow e fs (a ∷ es) (next_to x f) = let r = split_flow e fs es f in (r.0,
 -- other; its data are theirs, and its place is that of the first of them
 pub one_packet : (s : Setting) (n : ℕ) (xs : List Input) (es : List (Event wire)) (e : Event wire) (fs : List (Event wire)) (t : Tag) (d : List ℕ)
     → events_all s n lost xs ≡ es ++ e ∷ fs
-    → (take_in wire s.room (holding wire s.room free es) e).1 ≡ some (ordinary t d)
+    → (take_in wire s.room (holding wire s.room free es) e).1 ≡ Some (ordinary t d)
     → PacketRead t.content t.at d (es ++ e ∷ [])
 one_packet s n xs es e fs t d q g =
     let a = all_flow s n lost xs in

@@ -9,7 +9,9 @@ use lib.Dec.{eqb}
 use lib.ListN.{drop, length, take}
 use lib.Seq.{drop-drop, take-take}
 use borrow.Author.Tests.{eqb-true}
+use Rattle.std.specs.Prelude.{Err, Ok, Result, None, Option, Some}
 use Rattle.wire.specs.declared.Header.{Header}
+use Rattle.receiver.specs.declared.walk.Walk.{Walk}
 use Rattle.receiver.specs.declared.Piece.{Piece}
 use Rattle.receiver.specs.declared.Place.{Place}
 use Rattle.receiver.specs.declared.Receiver.{Receiver}
@@ -21,14 +23,8 @@ use Rattle.receiver.specs.declared.entry.Top.{Top}
 use Rattle.receiver.specs.declared.entry.Top.TheVariants.{Dropped, Elsewhere, Says}
 use Rattle.receiver.specs.declared.kind.Kind.{Kind}
 use Rattle.receiver.specs.declared.kind.Kind.TheVariants as K
-use Rattle.receiver.specs.declared.low.Llep.{Llep}
-use Rattle.receiver.specs.declared.low.Llep.TheVariants.{Broken, Whole}
 use Rattle.receiver.specs.declared.outset.Fore.{Fore}
 use Rattle.receiver.specs.declared.outset.Fore.TheVariants.{At, Bad, Off}
-use Rattle.receiver.specs.declared.outset.Offset.{Offset}
-use Rattle.receiver.specs.declared.outset.Offset.TheVariants.{Behind, Outside}
-use Rattle.receiver.specs.declared.outset.Start as O
-use Rattle.receiver.specs.declared.outset.Start.TheVariants as S
 use Rattle.receiver.specs.declared.walk.Gain.{Gain}
 use Rattle.receiver.specs.declared.walk.Gain.TheVariants as G
 use Rattle.receiver.specs.declared.walk.Phase.{Phase}
@@ -102,9 +98,9 @@ module _ (r : Receiver) (tp m : List ℕ) where
     kind_told K.Middle h = refl
     kind_told K.Last h = refl
 
-    llep_takes : (l : Llep) → Settled w → Takes (llep_brings l stamp at (frame_in r) (own_of (llep_turn l r o (length tp)).piece tp)) r tp m (llep_turn l r o (length tp)) m
-    llep_takes Broken s = record { taken = lose 11 (place_at stamp at) ∷ []; frame = refl; told = lost_told 11 (place_at stamp at) s; held = refl; finds = refl }
-    llep_takes (Whole h more) s = record { taken = []; frame = refl; told = append-nil left; held = refl; finds = kind_told (kind_of h) h }
+    llep_takes : (l : Option (Header × Bool)) → Settled w → Takes (llep_brings l stamp at (frame_in r) (own_of (llep_turn l r o (length tp)).piece tp)) r tp m (llep_turn l r o (length tp)) m
+    llep_takes None s = record { taken = lose 11 (place_at stamp at) ∷ []; frame = refl; told = lost_told 11 (place_at stamp at) s; held = refl; finds = refl }
+    llep_takes (Some (h, more)) s = record { taken = []; frame = refl; told = append-nil left; held = refl; finds = kind_told (kind_of h) h }
 
   -- the outset
   module _ (n : ℕ) (s : Settled w) (inside : at ≤ length tp) where
@@ -120,7 +116,7 @@ module _ (r : Receiver) (tp m : List ℕ) where
     none_left : (g : Place) → todo_of g (upon_of (at + n) (length tp)) ≡ []
     none_left g = upon_todo g (at + n) (length tp)
 
-    resumes : (i : ℕ) → begun ≡ resume wire (lose i (lost_at i stamp r.walk.began) ∷ []) n bs → Takes (start_brings begun) r tp m (out_turn (S.Loses i) r n (length tp)) m
+    resumes : (i : ℕ) → begun ≡ resume wire (lose i (lost_at i stamp r.walk.began) ∷ []) n bs → Takes (start_brings begun) r tp m (out_turn (Err i) r n (length tp)) m
     resumes i e =
         let g = r.walk.began in
         let p = lost_at i stamp g in
@@ -154,7 +150,7 @@ module _ (r : Receiver) (tp m : List ℕ) where
     fore_takes (At k) e =
         go (eqb k n) (by_at k (phase wire (frame_in r)) (foretold wire (frame_in r) bs) (start_of stamp) (frame_in r) n bs refl (fore_here (At k) e))
       where
-        go : (b : Bool) → begun ≡ agree wire b (start_of stamp) (frame_in r) n bs → Takes (start_brings begun) r tp m (out_turn (cond b (S.Reads r.walk) (S.Loses 13)) r n (length tp)) m
+        go : (b : Bool) → begun ≡ agree wire b (start_of stamp) (frame_in r) n bs → Takes (start_brings begun) r tp m (out_turn (cond {A = Result Walk ℕ} b (Ok r.walk) (Err 13)) r n (length tp)) m
         go true z = record {
           taken = [];
           frame = ap (λ (t : Start wire). t.frame) z;
@@ -164,10 +160,10 @@ module _ (r : Receiver) (tp m : List ℕ) where
         }
         go false z = resumes 13 z
 
-  due_takes : (o : ℕ) (l : Lent r at tp) (p : Offset) → Takes (start_brings (starts r stamp o at tp l p)) r tp m (due_turn p r tp) m
+  due_takes : (o : ℕ) (l : Lent r at tp) (p : Result ℕ ℕ) → Takes (start_brings (starts r stamp o at tp l p)) r tp m (due_turn p r tp) m
   unfolding set_out_of
-  due_takes o l (Outside n) = record { taken = lose n (start_of stamp) ∷ []; frame = refl; told = lost_told n (start_of stamp) l.settled; held = refl; finds = refl }
-  due_takes o l (Behind n) =
+  due_takes o l (Err n) = record { taken = lose n (start_of stamp) ∷ []; frame = refl; told = lost_told n (start_of stamp) l.settled; held = refl; finds = refl }
+  due_takes o l (Ok n) =
       let p = l.walk.at in
       let q = l.whole in
       fore_takes n l.settled (omega arith) (fore_of w (drop at tp)) refl
@@ -202,19 +198,19 @@ module _ (r : Receiver) (tp m : List ℕ) (able : Able r) (bytes : Bytes tp) (fu
   top_put (Dropped n) = refl
   top_put (Says has o) = refl
 
-  llep_put : (l : Llep) (o : ℕ) → put_of (llep_turn l r o (length tp)).piece tp m ≡ m
+  llep_put : (l : Option (Header × Bool)) (o : ℕ) → put_of (llep_turn l r o (length tp)).piece tp m ≡ m
   unfolding put_of
-  llep_put Broken o = refl
-  llep_put (Whole h more) o = refl
+  llep_put None o = refl
+  llep_put (Some (h, more)) o = refl
 
-  due_put : (p : Offset) → put_of (due_turn p r tp).piece tp m ≡ m
+  due_put : (p : Result ℕ ℕ) → put_of (due_turn p r tp).piece tp m ≡ m
   unfolding put_of
-  due_put (Outside n) = refl
-  due_put (Behind n) = by (set_out_of r.walk n tp)
+  due_put (Err n) = refl
+  due_put (Ok n) = by (set_out_of r.walk n tp)
     where
-      by : (s : O.Start) → put_of (out_turn s r n (length tp)).piece tp m ≡ m
-      by (S.Reads x) = refl
-      by (S.Loses i) = refl
+      by : (s : Result Walk ℕ) → put_of (out_turn s r n (length tp)).piece tp m ≡ m
+      by (Ok x) = refl
+      by (Err i) = refl
 
   stage_takes : (g : Stage) → Staged g r.walk → TakesOf (stage_brings g r tp (own_of (stage_turn g r tp).piece tp)) r tp m (stage_turn g r tp)
   stage_takes Fresh z =

@@ -2,7 +2,6 @@
 -- Assumes nothing.
 use mathlib.Core.Path.{ap, refl, subst, sym, ◌∙◌, ◌≡◌}
 use mathlib.Core.Bool.{Bool, cond, false, true}
-use mathlib.Core.Option.{Option, none, some}
 use mathlib.Core.List.{List, [], ◌++◌, ◌∷◌}
 use Prim.Native.Nat.{suc, zero, ℕ, ◌%◌, ◌+◌, ◌-◌, ◌≤◌}
 use native.Mathlib.Omega.{arith}
@@ -10,6 +9,7 @@ use lib.Dec.{eqb, leb, ltb}
 use lib.ListN.{drop, get_or, length, length-append, take}
 use lib.Seq.{length-take-le}
 use borrow.Author.Tests.{eqb-true}
+use Rattle.std.specs.Prelude.{None, Option, Some}
 use Rattle.digits.specs.Digits.{digits, number}
 use Rattle.wire.specs.declared.Header.{Header}
 use Rattle.wire.specs.Reading.{stream_of, tp_number_in, version_of}
@@ -29,7 +29,6 @@ use Rattle.receiver.specs.declared.low.Lows.{Lows}
 use Rattle.receiver.specs.declared.low.Lows.TheVariants as W
 use Rattle.receiver.specs.declared.stages.Stamps.{Stamps}
 use Rattle.receiver.specs.declared.walk.Kept.{Kept}
-use Rattle.receiver.specs.declared.walk.Kept.TheVariants.{Empty, Of}
 use Rattle.receiver.specs.declared.walk.Phase.{Phase}
 use Rattle.receiver.specs.declared.walk.Phase.TheVariants.{Body, Head, Judged, Lost}
 use Rattle.receiver.specs.Call.{Gave, Gives, Said, call_as, call_of, counted_of, due_call, first_call, fresh_of, gap_of, gone, holds, low_call, moved, ordinary_by, payload_call, said_of, says, stage_call, stamps_of, start_call, stepped, unchanged, walk_to, word_call}
@@ -61,7 +60,7 @@ Fits f s = Owns f s (holds s)
 -- ---- a byte is read
 
 fits_cond : (b : Bool) (h : Ep) (j : ℕ) (t : Tag) (d : List ℕ) (x : Option (Finding wire)) → Fits (body h j) (held t d)
-    → Fits (body h j) (cond {A = Took wire} b (held t d, none) (free, x)).0
+    → Fits (body h j) (cond {A = Took wire} b (held t d, None) (free, x)).0
 fits_cond true h j t d x f = f
 fits_cond false h j t d x f = omega arith
 
@@ -73,20 +72,20 @@ module _ (cap : ℕ) where
   fits_admit : (k : Kind) (h : Ep) (s : Held wire) (j : ℕ) → kind_of h.header ≡ k → h.header.size ≡ suc j → Fits (body h j) (admit wire cap k h s).0
   fits_admit Fill h s j e z = omega arith
   fits_admit Reserved h s j e z = omega arith
-  fits_admit Complete h s j e z = fits_cond (Room h []) h j (begin_of h) [] (some (notice 15 h.at)) (λ c. (refl, omega arith))
-  fits_admit First h s j e z = fits_cond (Room h []) h j (begin_of h) [] (some (notice 15 h.at)) (λ c. (refl, omega arith))
+  fits_admit Complete h s j e z = fits_cond (Room h []) h j (begin_of h) [] (Some (notice 15 h.at)) (λ c. (refl, omega arith))
+  fits_admit First h s j e z = fits_cond (Room h []) h j (begin_of h) [] (Some (notice 15 h.at)) (λ c. (refl, omega arith))
   fits_admit Middle h free j e z = omega arith
-  fits_admit Middle h (held t d) j e z = fits_cond (Room h d) h j (join_of t h) d (some (notice 15 h.at)) (λ c. let no : ◌≡◌ {A = ℕ} 0 1 = cc in absurd (omega arith))
+  fits_admit Middle h (held t d) j e z = fits_cond (Room h d) h j (join_of t h) d (Some (notice 15 h.at)) (λ c. let no : ◌≡◌ {A = ℕ} 0 1 = cc in absurd (omega arith))
   fits_admit Last h free j e z = omega arith
-  fits_admit Last h (held t d) j e z = fits_cond (Room h d) h j (join_of t h) d (some (notice 15 h.at)) (λ c. let no : ◌≡◌ {A = ℕ} 0 1 = cc in absurd (omega arith))
+  fits_admit Last h (held t d) j e z = fits_cond (Room h d) h j (join_of t h) d (Some (notice 15 h.at)) (λ c. let no : ◌≡◌ {A = ℕ} 0 1 = cc in absurd (omega arith))
 
   fits_entered : (h : Ep) (s : Held wire) (n : ℕ) → h.header.size ≡ n → Fits (within wire h n) (holding wire cap s (entered h ∷ ending wire h n))
   fits_entered h s zero z = omega arith
   fits_entered h s (suc j) z = fits_admit (kind_of h.header) h s j refl z
 
   fits_whole : (p : Place) (o : Option Ep) (s : Held wire) → Fits (whole wire p o).0 (holding wire cap s (whole wire p o).1)
-  fits_whole p none s = omega arith
-  fits_whole p (some h) s = fits_entered h (meets wire (kind_of h.header) h s).0 h.header.size refl
+  fits_whole p None s = omega arith
+  fits_whole p (Some h) s = fits_entered h (meets wire (kind_of h.header) h s).0 h.header.size refl
 
   fits_grown : (h : Ep) (j : ℕ) (s : Held wire) (b : ℕ) → Fits (body h (suc j)) s → Fits (body h j) (grown wire s b)
   fits_grown h j free b f = omega arith
@@ -112,8 +111,8 @@ module _ (cap : ℕ) where
 
   fits_met : (x : Option (Finding wire)) (f : Frame wire) (s : Held wire) (m : List ℕ) (es : List (Event wire)) (on : Met wire)
       → Fits f (holding wire cap s es) → FitsMet f on → FitsMet f (met wire x s m es on)
-  fits_met none f s m es on a b = b
-  fits_met (some x) f s m es on a b = a
+  fits_met None f s m es on a b = b
+  fits_met (Some x) f s m es on a b = a
 
   fits_meet : (f : Frame wire) (s : Held wire) (m : List ℕ) (es : List (Event wire)) → Fits f (holding wire cap s es) → FitsMet f (meet wire cap s m es)
   fits_meet f s m [] q = q
@@ -152,8 +151,8 @@ module _ (cap : ℕ) where
   fits_agree false p f n bs s q = fits_upon (drop n bs) free
 
   fits_judge : (o : Option ℕ) (p : Place) (f : Frame wire) (n : ℕ) (bs : List (Place × ℕ)) (s : Held wire) → Fits f s → FitsOut s (judge wire o p f n bs)
-  fits_judge none p f n bs s q = fits_upon (drop n bs) free
-  fits_judge (some m) p f n bs s q = fits_agree (eqb m n) p f n bs s q
+  fits_judge None p f n bs s q = fits_upon (drop n bs) free
+  fits_judge (Some m) p f n bs s q = fits_agree (eqb m n) p f n bs s q
 
   fits_start : (p : Place) (f : Frame wire) (n : ℕ) (bs : List (Place × ℕ)) (s : Held wire) → Fits f s → FitsOut s (start wire p f n bs)
   fits_start p lost n bs s q = fits_upon (drop n bs) s
@@ -189,32 +188,32 @@ headed_owns g (b ∷ bs) s k = omega arith
 abbrev Leaves : Frame wire → List (Event wire) → Held wire → ℕ → Type 0
 Leaves f es s k = es ≡ [] → Owns f s k
 
-own_leaves : (g : Place) (p : Phase) (k : Kept) (m : List ℕ) → OwnIn g p k → Leaves (frame_of g p) (todo_of g p) (held_of k m) (keeps k)
+own_leaves : (g : Place) (p : Phase) (k : Option Kept) (m : List ℕ) → OwnIn g p k → Leaves (frame_of g p) (todo_of g p) (held_of k m) (keeps k)
 own_leaves g Lost k m o e = omega arith
 own_leaves g (Head n w) k m o e = headed_owns g (digits n w) (held_of k m) (keeps k)
 own_leaves g (Judged h) k m o e = let no : ◌≡◌ {A = ℕ} 0 1 = cc in absurd (omega arith)
 own_leaves g (Body h zero) k m o e = omega arith
-own_leaves g (Body h (suc j)) Empty m o e = omega arith
-own_leaves g (Body h (suc j)) (Of c f b n) m o e = λ z. let w = o (omega arith) z in (tag_is w, w.size)
+own_leaves g (Body h (suc j)) None m o e = omega arith
+own_leaves g (Body h (suc j)) (Some k) m o e = λ z. let w = o (omega arith) z in (tag_is w, w.size)
 
-leaves_own : (g : Place) (p : Phase) (k : Kept) (m : List ℕ) → Leaves (frame_of g p) (todo_of g p) (held_of k m) (keeps k) → OwnIn g p k
+leaves_own : (g : Place) (p : Phase) (k : Option Kept) (m : List ℕ) → Leaves (frame_of g p) (todo_of g p) (held_of k m) (keeps k) → OwnIn g p k
 leaves_own g Lost k m l = omega arith
 leaves_own g (Head n w) k m l = omega arith
 leaves_own g (Judged h) k m l = omega arith
-leaves_own g (Body h n) Empty m l = omega arith
-leaves_own g (Body h zero) (Of c e b n) m l = λ i z. absurd (omega arith)
-leaves_own g (Body h (suc j)) (Of c e b n) m l = λ i z. let o = l refl z in own_is g b h (suc j) c e n o.0 o.1
+leaves_own g (Body h n) None m l = omega arith
+leaves_own g (Body h zero) (Some k) m l = λ i z. absurd (omega arith)
+leaves_own g (Body h (suc j)) (Some k) m l = λ i z. let o = l refl z in own_is g k.began h (suc j) k.content k.repaired k.len o.0 o.1
 
-own_fits : (g : Place) (p : Phase) (k : Kept) (m : List ℕ) → Fine (length m) p k → OwnIn g p k
+own_fits : (g : Place) (p : Phase) (k : Option Kept) (m : List ℕ) → Fine (length m) p k → OwnIn g p k
     → Fits (frame_of g p) (holding wire (length m) (held_of k m) (todo_of g p))
 own_fits g Lost k m f o = omega arith
 own_fits g (Head n w) k m f o = headed_owns g (digits n w) (held_of k m) (holds (held_of k m))
 own_fits g (Judged h) k m f o = fits_entered (length m) (ep_at g h) (held_of k m) h.size refl
 own_fits g (Body h zero) k m f o = omega arith
-own_fits g (Body h (suc j)) Empty m f o = omega arith
-own_fits g (Body h (suc j)) (Of c e b n) m f o =
+own_fits g (Body h (suc j)) None m f o = omega arith
+own_fits g (Body h (suc j)) (Some k) m f o =
     λ z. let w = o (omega arith) z in
-    let l = length-take-le n m (omega (arith, f)) in
+    let l = length-take-le k.len m (omega (arith, f)) in
     (tag_is w, omega (arith, l, w.size))
 
 settled_done : (g : Place) (p : Phase) → Settled p → todo_of g p ≡ []
@@ -234,7 +233,7 @@ moved_leaves : (r : Receiver) (s : Stage) (at : ℕ) (a : Said) (m : List ℕ) �
 moved_leaves r s at a m o = own_leaves r.walk.began r.walk.phase r.walk.kept m o
 
 still_leaves : (r : Receiver) (t : Stamp) (f : Find) (n : ℕ) (m : List ℕ) → Placed r → LeavesIn (unchanged r t f n m)
-still_leaves r t f n m o = moved_leaves r r.stage r.walk.at (says f (some n) (start_of t)) m o
+still_leaves r t f n m o = moved_leaves r r.stage r.walk.at (says f (Some n) (start_of t)) m o
 
 module _ (r : Receiver) (t : Stamp) (tp m : List ℕ) where
   plain_leaves : (x : Option (Finding wire)) (p : Pulled wire) → FitsIn (length m) p → LeavesIn (ordinary_by x r t p)
@@ -244,10 +243,10 @@ module _ (r : Receiver) (t : Stamp) (tp m : List ℕ) where
       none_left e = subst (λ (es : List (Event wire)). Fits p.frame (holding wire (length m) p.held es)) e q
 
       by : (x : Option (Finding wire)) → LeavesIn (ordinary_by x r t p)
-      by none = none_left
-      by (some (notice n g)) = none_left
-      by (some (low c d)) = none_left
-      by (some (ordinary c d)) = none_left
+      by None = none_left
+      by (Some (notice n g)) = none_left
+      by (Some (low c d)) = none_left
+      by (Some (ordinary c d)) = none_left
 
   start_leaves : (at : ℕ) (x : Start wire) → FitsOut (length m) (held_of r.walk.kept m) x → LeavesIn (start_call r t at x tp m)
   start_leaves at x q =
@@ -273,8 +272,8 @@ module _ (r : Receiver) (t : Stamp) (tp m : List ℕ) where
     payload_leaves false n = due_leaves n 4
 
     word_leaves : (x : Option ℕ) → LeavesIn (word_call x r t tp m)
-    word_leaves none = λ e. omega arith
-    word_leaves (some w) = payload_leaves (leb 2048 w) (w % 2048)
+    word_leaves None = λ e. omega arith
+    word_leaves (Some w) = payload_leaves (leb 2048 w) (w % 2048)
 
 module _ (r : Receiver) (n : Stamps) (tp m : List ℕ) (a : Able r) (o : Placed r) where
   module _ (full : length m ≡ r.limit) where
@@ -339,12 +338,12 @@ pub placed_over : (r : Receiver) → Placed r → Placed (over_of r)
 placed_over r o = o
 
 -- all of a payload is data, and more of them follow
-taken_own : (g : Place) (p : Phase) (k : Kept) (n : ℕ) → LeftOver n p → OwnIn g p k → OwnIn g (less_by n p) (grown_by n k)
+taken_own : (g : Place) (p : Phase) (k : Option Kept) (n : ℕ) → LeftOver n p → OwnIn g p k → OwnIn g (less_by n p) (grown_by n k)
 taken_own g Lost k n l o = absurd (omega arith)
 taken_own g (Head i w) k n l o = absurd (omega arith)
 taken_own g (Judged h) k n l o = absurd (omega arith)
-taken_own g (Body h left) Empty n l o = omega arith
-taken_own g (Body h left) (Of c e b k) n l o =
+taken_own g (Body h left) None n l o = omega arith
+taken_own g (Body h left) (Some q) n l o =
     λ i z. let w = o (omega arith) z in
     record { content = w.content; flips = w.flips; place = w.place; size = omega (arith, w.size) }
 

@@ -7,6 +7,7 @@ use native.Mathlib.Omega.{arith}
 use lib.Dec.{eqb, leb, ltb}
 use lib.ListN.{drop, length, length-drop}
 use borrow.Author.Tests.{le-leb, le-ltb, leb-false, leb-true, lt-leb, lt-ltb, ltb-false, ltb-true}
+use Rattle.std.specs.Prelude.{Err, Ok, Result, None}
 use Rattle.receiver.specs.declared.Find.{Find}
 use Rattle.receiver.specs.declared.Receiver.{Receiver}
 use Rattle.receiver.specs.declared.Stage.TheVariants.{Due, Low, Plain}
@@ -14,9 +15,6 @@ use Rattle.receiver.specs.declared.low.Lows.{Lows}
 use Rattle.receiver.specs.declared.stages.Course.{Course}
 use Rattle.receiver.specs.declared.Place.{Place}
 use Rattle.receiver.specs.declared.Stamp.{Stamp}
-use Rattle.receiver.specs.declared.outset.Offset.{Offset}
-use Rattle.receiver.specs.declared.outset.Offset.TheVariants.{Behind, Outside}
-use Rattle.receiver.specs.declared.walk.Kept.TheVariants.{Empty}
 use Rattle.receiver.specs.declared.walk.Phase.{Phase}
 use Rattle.receiver.specs.declared.walk.Phase.TheVariants.{Lost}
 use Rattle.receiver.specs.declared.walk.Walk.{Walk}
@@ -37,8 +35,6 @@ use Rattle.receiver.proofs.SettingOut.{sets_out}
 use Rattle.receiver.proofs.Walking.{low_in_lem}
 use Rattle.receiver.specs.declared.Find.TheVariants as F
 use Rattle.receiver.specs.declared.low.Lows.TheVariants as L
-use Rattle.receiver.specs.declared.outset.Start as Outset
-use Rattle.receiver.specs.declared.outset.Start.TheVariants as O
 use Rattle.receiver.specs.declared.stages.Course.TheVariants as C
 
 -- a course leads wherever is the same
@@ -51,19 +47,19 @@ leads_by g h r t tp (C.Reads w) e l = record { same = λ m f. l.same m f ∙ e m
 -- the courses
 
 drop_leads : (r : Receiver) (t : Stamp) (at : ℕ) (tp : List ℕ) (n : ℕ) (g : Place) → 16 ≤ r.size → length tp ≡ r.size → at ≤ length tp
-    → Leads (start_call r t at (dropped wire n g (placed t at (drop at tp))) tp) r t tp (C.Gives (step_of r Plain (length tp) Lost Empty (F.Notice n) g))
+    → Leads (start_call r t at (dropped wire n g (placed t at (drop at tp))) tp) r t tp (C.Gives (step_of r Plain (length tp) Lost None (F.Notice n) g))
 unfolding Leads
 drop_leads r t at tp n g size whole b = λ m f. drop_gives r t tp m size whole f n g at b
 
 lent_in : (r : Receiver) (at : ℕ) (tp : List ℕ) → Lent r at tp → at ≤ length tp
 lent_in r at tp l = let p = l.walk.at in let q = l.whole in omega arith
 
-module _ (r : Receiver) (t : Stamp) (at n : ℕ) (tp : List ℕ) (s : Outset.Start) (l : Lent r at tp) where
+module _ (r : Receiver) (t : Stamp) (at n : ℕ) (tp : List ℕ) (s : Result Walk ℕ) (l : Lent r at tp) where
   -- what the forecast decided answers the call
   decided : at + n ≤ length tp → s ≡ set_out_of (walk_to r at) n tp → SetsOut (walk_to r at) n tp s
   decided b g = subst (SetsOut (walk_to r at) n tp) (sym g) (sets_out (walk_to r at) n tp b l.settled)
 
-  pub set_reads : (x : Walk) → at + n ≤ length tp → s ≡ set_out_of (walk_to r at) n tp → s ≡ O.Reads x → Leads (set_call r t at n tp) r t tp (C.Reads x)
+  pub set_reads : (x : Walk) → at + n ≤ length tp → s ≡ set_out_of (walk_to r at) n tp → s ≡ Ok x → Leads (set_call r t at n tp) r t tp (C.Reads x)
   unfolding SetsOut Leads set_out
   set_reads x b g e =
       let h : ReadsOn (walk_to r at) n tp x = subst (SetsOut (walk_to r at) n tp) e (decided b g) in
@@ -72,21 +68,21 @@ module _ (r : Receiver) (t : Stamp) (at n : ℕ) (tp : List ℕ) (s : Outset.Sta
         sound = subst (λ (k : ℕ). Sound r.limit k x) l.whole (h.sound r.limit (subst (λ (k : ℕ). Sound r.limit k (walk_to r at)) (sym l.whole) l.walk));
       }
 
-  pub set_loses : (i : ℕ) (there : Phase) → at + n ≤ length tp → there ≡ upon_of (at + n) (length tp) → s ≡ set_out_of (walk_to r at) n tp → s ≡ O.Loses i
-      → Leads (set_call r t at n tp) r t tp (C.Gives (step_of r Plain (at + n) there Empty (F.Notice i) (lost_at i t r.walk.began)))
+  pub set_loses : (i : ℕ) (there : Phase) → at + n ≤ length tp → there ≡ upon_of (at + n) (length tp) → s ≡ set_out_of (walk_to r at) n tp → s ≡ Err i
+      → Leads (set_call r t at n tp) r t tp (C.Gives (step_of r Plain (at + n) there None (F.Notice i) (lost_at i t r.walk.began)))
   unfolding SetsOut Leads
   set_loses i there b u g e = λ m f.
-      subst (λ (p : Phase). Gives (set_call r t at n tp m) (step_of r Plain (at + n) p Empty (F.Notice i) (lost_at i t r.walk.began)) tp m) (sym u)
+      subst (λ (p : Phase). Gives (set_call r t at n tp m) (step_of r Plain (at + n) p None (F.Notice i) (lost_at i t r.walk.began)) tp m) (sym u)
       (lose_gives r t tp m l.size l.whole f at n i (lost_at i t r.walk.began) b (subst (SetsOut (walk_to r at) n tp) e (decided b g) t m))
 
 -- behind the low-latency part
 
-pub behind_in : (o at len n : ℕ) → at ≤ len → place_of o at len ≡ Behind n → at + n ≤ len
+pub behind_in : (o at len n : ℕ) → at ≤ len → place_of o at len ≡ Ok n → at + n ≤ len
 unfolding place_of
 behind_in o at len n b e = by (eqb o 2047) (leb len (o + 4)) (ltb (o + 4) at) refl refl e
   where
     by : (x y z : Bool) → leb len (o + 4) ≡ y → ltb (o + 4) at ≡ z
-        → cond x (Behind (len - at)) (cond y (Outside 10) (cond z (Outside 21) (Behind (o + 4 - at)))) ≡ Behind n → at + n ≤ len
+        → cond {A = Result ℕ ℕ} x (Ok (len - at)) (cond y (Err 10) (cond z (Err 21) (Ok (o + 4 - at)))) ≡ Ok n → at + n ≤ len
     by true y z h k e = let q : len - at ≡ n = cc in omega arith
     by false true z h k e = let q : ◌≡◌ {A = ℕ} 0 1 = cc in absurd (omega arith)
     by false false true h k e = let q : ◌≡◌ {A = ℕ} 0 1 = cc in absurd (omega arith)
@@ -99,9 +95,9 @@ module _ (r : Receiver) (t : Stamp) (o at : ℕ) (tp : List ℕ) (l : Lent r at 
   abbrev bytes : List (Place × ℕ)
   bytes = placed t at (drop at tp)
 
-  abbrev pub starts : Offset → Start wire
-  starts (Outside n) = dropped wire n (start_of t) bytes
-  starts (Behind n) = start wire (start_of t) frame n bytes
+  abbrev pub starts : Result ℕ ℕ → Start wire
+  starts (Err n) = dropped wire n (start_of t) bytes
+  starts (Ok n) = start wire (start_of t) frame n bytes
 
   pub outset_at : outset wire (start_of t) frame o (at - 4) bytes ≡ starts (place_of o at (length tp))
   unfolding outset place_of
@@ -118,7 +114,7 @@ module _ (r : Receiver) (t : Stamp) (o at : ℕ) (tp : List ℕ) (l : Lent r at 
 
       by : (x y z : Bool) → eqb o 2047 ≡ x → leb (length tp) (o + 4) ≡ y → ltb (o + 4) at ≡ z
           → outset wire (start_of t) frame o (at - 4) bytes
-          ≡ starts (cond x (Behind (length tp - at)) (cond y (Outside 10) (cond z (Outside 21) (Behind (o + 4 - at)))))
+          ≡ starts (cond {A = Result ℕ ℕ} x (Ok (length tp - at)) (cond y (Err 10) (cond z (Err 21) (Ok (o + 4 - at)))))
       by true y z e h k = rw e (ap (λ (n : ℕ). start wire (start_of t) frame n bytes) many)
       by false true z e h k =
           let v : at - 4 + length bytes ≤ o = omega (arith, many, leb-true (length tp) (o + 4) h, b, d) in
@@ -134,17 +130,17 @@ module _ (r : Receiver) (t : Stamp) (o at : ℕ) (tp : List ℕ) (l : Lent r at 
           rw (e, lt-leb (at - 4 + length bytes) o v, le-ltb o (at - 4) w)
           (ap (λ (n : ℕ). start wire (start_of t) frame n bytes) z)
 
-  due_by : (q : Course) (p : Offset) → place_of o at (length tp) ≡ p → Leads (start_call r t at (starts p) tp) r t tp q → Leads (due_call r t o at tp) r t tp q
+  due_by : (q : Course) (p : Result ℕ ℕ) → place_of o at (length tp) ≡ p → Leads (start_call r t at (starts p) tp) r t tp q → Leads (due_call r t o at tp) r t tp q
   unfolding due_call
   due_by q p e g =
       leads_by (due_call r t o at tp) (start_call r t at (starts p) tp) r t tp q (λ m. ap (λ (x : Start wire). start_call r t at x tp m) (sym (outset_at ∙ ap starts e))) g
 
-  pub due_outside : (n : ℕ) → place_of o at (length tp) ≡ Outside n
-      → Leads (due_call r t o at tp) r t tp (C.Gives (step_of r Plain (length tp) Lost Empty (F.Notice n) (start_of t)))
-  due_outside n e = due_by _ (Outside n) e (drop_leads r t at tp n (start_of t) l.size l.whole (lent_in r at tp l))
+  pub due_outside : (n : ℕ) → place_of o at (length tp) ≡ Err n
+      → Leads (due_call r t o at tp) r t tp (C.Gives (step_of r Plain (length tp) Lost None (F.Notice n) (start_of t)))
+  due_outside n e = due_by _ (Err n) e (drop_leads r t at tp n (start_of t) l.size l.whole (lent_in r at tp l))
 
-  pub due_behind : (q : Course) (n : ℕ) → place_of o at (length tp) ≡ Behind n → Leads (set_call r t at n tp) r t tp q → Leads (due_call r t o at tp) r t tp q
-  due_behind q n e g = due_by q (Behind n) e g
+  pub due_behind : (q : Course) (n : ℕ) → place_of o at (length tp) ≡ Ok n → Leads (set_call r t at n tp) r t tp q → Leads (due_call r t o at tp) r t tp q
+  due_behind q n e g = due_by q (Ok n) e g
 
 -- the low-latency part, if there is one
 
@@ -163,7 +159,7 @@ module _ (r : Receiver) (t : Stamp) (low : Bool) (o at : ℕ) (tp : List ℕ) (l
       let w = l.whole in
       record { size = l.size; whole = l.whole; payload = omega arith; walk = record { at = omega arith; phase = l.walk.phase }; settled = l.settled }
 
-  pub part_broken : (i : ℕ) → walked ≡ L.Broken i → Leads (part_call low r t o at tp) r t tp (C.Gives (step_of r Plain (length tp) Lost Empty (F.Notice 11) (place_at t i)))
+  pub part_broken : (i : ℕ) → walked ≡ L.Broken i → Leads (part_call low r t o at tp) r t tp (C.Gives (step_of r Plain (length tp) Lost None (F.Notice 11) (place_at t i)))
   part_broken i e =
       part_by_lem _ (L.Broken i) (start_call r t i (dropped wire 11 (place_at t i) (placed t i (drop i tp))) tp) e (λ m. refl)
       (drop_leads r t i tp 11 (place_at t i) l.size l.whole (low_in_lem low tp at (L.Broken i) (lent_in r at tp l) e).1)

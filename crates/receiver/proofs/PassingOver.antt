@@ -3,13 +3,13 @@
 use mathlib.Core.Path.{◌≡◌, refl, sym, subst, ap, ◌∙◌}
 use mathlib.Core.Bool.{Bool, true, false}
 use mathlib.Core.List.{List, [], ◌∷◌}
-use mathlib.Core.Option.{some}
 use Prim.Native.Nat.{ℕ, ◌+◌, ◌-◌, ◌%◌, ◌/◌, ◌^◌, ◌≤◌, ◌<◌, min}
 use native.Mathlib.Omega.{arith}
 use lib.Dec.{eqb, leb, lit<}
 use lib.ListN.{drop, get_or, length, length-drop, take}
 use lib.Seq.{drop-drop, get_or-drop, take-add}
 use borrow.Author.Tests.{eq-eqb, eqb-true, le-ltb, lt-leb}
+use Rattle.std.specs.Prelude.{Ok, Some, None, Option}
 use Rattle.digits.specs.Digits.{number}
 use Rattle.digits.proofs.Laws.{number_append}
 use Rattle.golay.specs.Golay.{chosen, code_word, distance}
@@ -25,11 +25,9 @@ use Rattle.receiver.specs.declared.Stage.TheVariants.{Fresh}
 use Rattle.receiver.specs.declared.entry.Top.TheVariants.{Says}
 use Rattle.receiver.specs.declared.kind.Kind.TheVariants.{Fill}
 use Rattle.receiver.specs.declared.outset.Fore.TheVariants.{At, Off}
-use Rattle.receiver.specs.declared.outset.Offset.TheVariants.{Behind}
 use Rattle.receiver.specs.declared.stages.Course.TheVariants as C
 use Rattle.receiver.specs.declared.walk.Gain.TheVariants.{Nothing}
 use Rattle.receiver.specs.declared.walk.Kept.{Kept}
-use Rattle.receiver.specs.declared.walk.Kept.TheVariants.{Empty, Of}
 use Rattle.receiver.specs.declared.walk.Phase.{Phase}
 use Rattle.receiver.specs.declared.walk.Phase.TheVariants.{Lost, Head, Judged, Body}
 use Rattle.receiver.specs.declared.walk.Walk.{Walk}
@@ -45,7 +43,7 @@ use Rattle.receiver.specs.Outset.{fore_of, place_of, upon_of}
 use Rattle.receiver.specs.Over.{DataIf, InData, Keeping, LeftOver, OverIf, less_by, over_of, put_of, taken_of}
 use Rattle.receiver.specs.Pieces.{top_of}
 use Rattle.receiver.specs.Place.{count_of, own_of, place_at}
-use Rattle.receiver.specs.State.{Able, Fine, Sound}
+use Rattle.receiver.specs.State.{Able, Fine, Sound, kept_by}
 use Rattle.receiver.specs.Turns.{advance_of, body_turn, grown_by, walk_at}
 use Rattle.receiver.proofs.Advancing.{body_cut}
 use Rattle.receiver.proofs.Bodies.{advance_carries, lost_turned, room_length}
@@ -69,18 +67,18 @@ module _ (r : Receiver) (tp : List ℕ) (able : Able r) (whole : length tp ≡ r
   Takes x = Leads (stage_call r.stage r (counted_of r) (stamps_of r) tp) (counted_of r) (stamps_of r).now tp (C.Reads x)
 
   -- none
-  told : (m m' : List ℕ) → length m ≡ r.limit → length m' ≡ length m → (x : Walk) (j : ℕ) (p : Phase) (g : Place) (k : Kept) → Takes x
+  told : (m m' : List ℕ) → length m ≡ r.limit → length m' ≡ length m → (x : Walk) (j : ℕ) (p : Phase) (g : Place) (k : Option Kept) → Takes x
       → Ends (length m) (stamps_of r).now x tp m (record { walk = walk_at j p g k; gain = Nothing }) m'
       → Gives (call_of r tp m) (ends_in (made_of r (count_of r.count) Fresh (walk_at 0 p g k)) (own_of (count_of r.count))) tp m'
   told m m' full same x j p g k l e =
       subst (λ (n : ℕ). Gives (call_of r tp m) (ends_in (made_of r n Fresh (walk_at 0 p g k)) (own_of n)) tp m') (ap (λ (x : Stage). count_in x r.count) s)
       (reads_gives r tp lent m m' tp full same x (record { walk = walk_at j p g k; gain = Nothing }) l e)
 
-  walk_is : (i : ℕ) (p : Phase) (k : Kept) → r.walk.phase ≡ p → r.walk.kept ≡ k → walk_at i p r.walk.began k ≡ walk_to r i
-  walk_is i p k e f = ap (λ (x : Phase). walk_at i x r.walk.began k) (sym e) ∙ ap (λ (x : Kept). walk_at i r.walk.phase r.walk.began x) (sym f)
+  walk_is : (i : ℕ) (p : Phase) (k : Option Kept) → r.walk.phase ≡ p → r.walk.kept ≡ k → walk_at i p r.walk.began k ≡ walk_to r i
+  walk_is i p k e f = ap (λ (x : Phase). walk_at i x r.walk.began k) (sym e) ∙ ap (λ (x : Option Kept). walk_at i r.walk.phase r.walk.began x) (sym f)
 
   module _ (m : List ℕ) (full : length m ≡ r.limit) where
-    lost_over : r.walk.phase ≡ Lost → r.walk.kept ≡ Empty → top_of r.stream tp ≡ Says false 2047
+    lost_over : r.walk.phase ≡ Lost → r.walk.kept ≡ None → top_of r.stream tp ≡ Says false 2047
         → Gives (call_of r tp m) (ends_in (over_of r) (own_of (count_of r.count))) tp m
     unfolding fore_of place_of upon_of Carries
     lost_over e f top =
@@ -91,29 +89,29 @@ module _ (r : Receiver) (tp : List ℕ) (able : Able r) (whole : length tp ≡ r
         let x : Walk = record { at = 4 + n; phase = upon_of (4 + n) (length tp); began = g; kept = r.walk.kept } in
         let l = fresh_by_lem r tp lent n 2047 x s top refl (set_by (walk_to (counted_of r) 4) n tp Off fore) in
         let y : upon_of (4 + n) (length tp) ≡ Lost = rw (le-ltb (4 + n) (length tp) (omega arith)) in
-        let v = walk_at (4 + n) Lost g Empty in
+        let v = walk_at (4 + n) Lost g None in
         let u : x ≡ v = ap (λ (p : Phase). walk_at (4 + n) p g r.walk.kept) y ∙ ap (walk_at (4 + n) Lost g) f in
         let h = lost_turned (length m) (stamps_of r).now tp m v (record { at = omega arith; phase = omega arith }) refl in
-        subst (λ (w : Walk). Gives (call_of r tp m) (ends_in (made_of r (count_of r.count) Fresh w) (own_of (count_of r.count))) tp m) (walk_is 0 Lost Empty e f)
-        (told m m full refl v (length tp) Lost g Empty (subst Takes u l) h)
+        subst (λ (w : Walk). Gives (call_of r tp m) (ends_in (made_of r (count_of r.count) Fresh w) (own_of (count_of r.count))) tp m) (walk_is 0 Lost None e f)
+        (told m m full refl v (length tp) Lost g None (subst Takes u l) h)
 
     -- nobody looks at where the last EP began
-    fill_over : r.walk.phase ≡ Head 0 0 → r.walk.kept ≡ Empty → top_of r.stream tp ≡ Says false 0 → Bytes tp → Skips tp 4 (length tp)
+    fill_over : r.walk.phase ≡ Head 0 0 → r.walk.kept ≡ None → top_of r.stream tp ≡ Says false 0 → Bytes tp → Skips tp 4 (length tp)
         → Gives (call_of r tp m) (ends_in (over_of r) (own_of (count_of r.count))) tp m
     unfolding ahead_of place_of stepped
     fill_over e f top bytes skips =
         let size = able.size in
         let g = r.walk.began in
         let fore : fore_of (Head 0 0) (drop 4 tp) ≡ At 0 = sym (ahead_fore tp 4 0 0 (omega arith) (omega arith) (omega arith)) in
-        let place : place_of 0 4 (length tp) ≡ Behind 0 = rw (lt-leb (length tp) 4 (omega arith)) in
+        let place : place_of 0 4 (length tp) ≡ Ok 0 = rw (lt-leb (length tp) 4 (omega arith)) in
         let l = fresh_leads r tp lent 0 s (record { offset = 0; top = top; place = place }) (ap (λ (p : Phase). fore_of p (drop 4 tp)) e ∙ fore) in
         let t = (stamps_of r).now in
         let d = cut_ends 4 (length tp) t tp m bytes skips g 0 (omega arith) (omega arith) in
-        let q = told m m full refl (between 4 g Empty) (length tp + 0) (Head 0 0) (place_at t (length tp)) Empty (subst Takes (sym (walk_is 4 (Head 0 0) Empty e f)) l) d in
-        subst (λ (w : Walk). Gives (call_of r tp m) (ends_in (made_of r (count_of r.count) Fresh w) (own_of (count_of r.count))) tp m) (walk_is 0 (Head 0 0) Empty e f)
+        let q = told m m full refl (between 4 g None) (length tp + 0) (Head 0 0) (place_at t (length tp)) None (subst Takes (sym (walk_is 4 (Head 0 0) None e f)) l) d in
+        subst (λ (w : Walk). Gives (call_of r tp m) (ends_in (made_of r (count_of r.count) Fresh w) (own_of (count_of r.count))) tp m) (walk_is 0 (Head 0 0) None e f)
         (record { same = q.same; able = record { size = able.size; walk = record { at = omega arith; phase = q.able.walk.phase }; stage = q.able.stage } })
 
-    data_taken : (h : Header) (left c e : ℕ) (g : Place) (len : ℕ) → r.walk.phase ≡ Body h left → r.walk.kept ≡ Of c e g len → length tp - 4 < left
+    data_taken : (h : Header) (left c e : ℕ) (g : Place) (len : ℕ) → r.walk.phase ≡ Body h left → r.walk.kept ≡ kept_by c e g len → length tp - 4 < left
         → top_of r.stream tp ≡ Says false 2047 → Bytes tp
         → Gives (call_of r tp m) (ends_in (taken_of r (length tp - 4)) (own_of (count_of r.count))) tp (put_of r tp m)
     unfolding place_of Carries advance_of room_of
@@ -122,20 +120,20 @@ module _ (r : Receiver) (tp : List ℕ) (able : Able r) (whole : length tp ≡ r
         let n = length tp - 4 in
         let t = (stamps_of r).now in
         let b = r.walk.began in
-        let x = walk_at 4 (Body h left) b (Of c e g len) in
+        let x = walk_at 4 (Body h left) b (kept_by c e g len) in
         let least : min left n ≡ n = omega arith in
         let fore : fore_of r.walk.phase (drop 4 tp) ≡ At n =
         ap (λ (q : Phase). fore_of q (drop 4 tp)) p ∙ sym (body_fore h left n (drop 4 tp) (length-drop 4 tp)) ∙ ap At least in
         let l = fresh_leads r tp lent n s (record { offset = 2047; top = top; place = refl }) fore in
-        let fine : Fine r.limit (Body h left) (Of c e g len) = rw (p, k) at able.walk.phase in
+        let fine : Fine r.limit (Body h left) (kept_by c e g len) = rw (p, k) at able.walk.phase in
         let sound : Sound (length m) (length tp) x = record { at = omega arith; phase = rw full fine } in
-        let put = pasted (Of c e g len) m (drop 4 tp) n in
+        let put = pasted (kept_by c e g len) m (drop 4 tp) n in
         let same : length put ≡ length m = rw least at (room_length (length m) x tp m refl sound) in
-        let carried : Carries (length m) t x tp m (body_turn tp 4 h left b (Of c e g len)) put = rw least at (advance_carries (length m) t tp m refl bytes x sound) in
-        let d = rw (sym (body_cut tp 4 left h b (Of c e g len) more)) at carried in
-        let q = told m put full same x (4 + n) (Body h (left - n)) b (Of c e g (len + n)) (subst Takes (sym (walk_is 4 (Body h left) (Of c e g len) p k)) l) d in
+        let carried : Carries (length m) t x tp m (body_turn tp 4 h left b (kept_by c e g len)) put = rw least at (advance_carries (length m) t tp m refl bytes x sound) in
+        let d = rw (sym (body_cut tp 4 left h b (kept_by c e g len) more)) at carried in
+        let q = told m put full same x (4 + n) (Body h (left - n)) b (kept_by c e g (len + n)) (subst Takes (sym (walk_is 4 (Body h left) (kept_by c e g len) p k)) l) d in
         subst (λ (y : Phase). Gives (call_of r tp m) (ends_in (made_of r (count_of r.count) Fresh (walk_at 0 (less_by n y) b (grown_by n r.walk.kept))) (own_of (count_of r.count))) tp (put_of r tp m)) (sym p)
-        (subst (λ (y : Kept). Gives (call_of r tp m) (ends_in (made_of r (count_of r.count) Fresh (walk_at 0 (Body h (left - n)) b (grown_by n y))) (own_of (count_of r.count))) tp (pasted y m (drop 4 tp) n)) (sym k) q)
+        (subst (λ (y : Option Kept). Gives (call_of r tp m) (ends_in (made_of r (count_of r.count) Fresh (walk_at 0 (Body h (left - n)) b (grown_by n y))) (own_of (count_of r.count))) tp (pasted y m (drop 4 tp) n)) (sym k) q)
 
 -- ---- the words of a TP that is all fill
 
@@ -158,7 +156,7 @@ module _ (tp : List ℕ) (long : 10 ≤ length tp) (zeros : six_of tp ≡ 0) whe
   zero_word i l a b c = sym (three_at i tp l) ∙ rw (a, b, c) refl
 
   -- no low-latency part, and an EP begins at once
-  pub starts_at_once : tp_number_in (word_at 1 tp) ≡ some 0
+  pub starts_at_once : tp_number_in (word_at 1 tp) ≡ Some 0
   unfolding tp_number_in
   starts_at_once =
       rw (zero_word 1 (omega arith) (omega (arith, zeros)) (omega (arith, zeros)) (omega (arith, zeros))) (number_back 0 0 (lit< tt) near_zero)
@@ -177,7 +175,7 @@ module _ (tp : List ℕ) (long : 10 ≤ length tp) (zeros : six_of tp ≡ 0) whe
         ∙ ap (λ (k : ℕ). number k (take 3 (drop 7 tp))) (zero_word 4 (omega arith) (omega (arith, zeros)) (omega (arith, zeros)) (omega (arith, zeros)))
         ∙ size
 
-    fill_header : header_in w ≡ some (record { content = 0; fragment = 0; size = n; flips = header_flips 0 0 n w })
+    fill_header : header_in w ≡ Some (record { content = 0; fragment = 0; size = n; flips = header_flips 0 0 n w })
     unfolding first_number
     fill_header =
         let small = code_lt n in
@@ -233,13 +231,13 @@ startless_void true p tp f = by p f
     by (Body h n) f = f
 
 -- what a TP's header says whose version is 0
-says : (stream : ℕ) (tp : List ℕ) (w : ℕ) → stream_of (get_or tp 0 0) ≡ stream → eqb (version_of (get_or tp 0 0)) 0 ≡ true → tp_number_in (word_at 1 tp) ≡ some w
+says : (stream : ℕ) (tp : List ℕ) (w : ℕ) → stream_of (get_or tp 0 0) ≡ stream → eqb (version_of (get_or tp 0 0)) 0 ≡ true → tp_number_in (word_at 1 tp) ≡ Some w
     → top_of stream tp ≡ Says (leb 2048 w) (w % 2048)
 unfolding top_of
 says stream tp w e v f = rw (eq-eqb (stream_of (get_or tp 0 0)) stream e, v, f) refl
 
 pub over_if : (r : Receiver) (tp : List ℕ) (room : ℕ) (x : Bool) → Able r → Bytes tp → 10 ≤ length tp → VoidIf x r.walk.phase tp → x ≡ true
-    → r.stage ≡ Fresh → r.walk.kept ≡ Empty → length tp ≡ r.size → room ≡ r.limit → stream_of (get_or tp 0 0) ≡ r.stream
+    → r.stage ≡ Fresh → r.walk.kept ≡ None → length tp ≡ r.size → room ≡ r.limit → stream_of (get_or tp 0 0) ≡ r.stream
     → OverIf (eqb (version_of (get_or tp 0 0)) 0) r tp room
 over_if r tp room x able bytes long void told-so s k whole full stream = by (eqb (version_of (get_or tp 0 0)) 0) refl
   where
@@ -260,7 +258,7 @@ over_if r tp room x able bytes long void told-so s k whole full stream = by (eqb
     by true e = (full, λ m f. in_phase r.walk.phase refl (subst (λ (y : Bool). VoidIf y r.walk.phase tp) told-so void) e m (f ∙ full))
 
 pub data_if : (r : Receiver) (tp : List ℕ) (room : ℕ) (h : Header) (left c e : ℕ) (g : Place) (len : ℕ) → Able r → Bytes tp → 10 ≤ length tp
-    → r.walk.phase ≡ Body h left → r.walk.kept ≡ Of c e g len → length tp - 4 < left → eqb (word_at 1 tp) (code_word 2047) ≡ true
+    → r.walk.phase ≡ Body h left → r.walk.kept ≡ kept_by c e g len → length tp - 4 < left → eqb (word_at 1 tp) (code_word 2047) ≡ true
     → r.stage ≡ Fresh → length tp ≡ r.size → room ≡ r.limit → stream_of (get_or tp 0 0) ≡ r.stream → DataIf (eqb (version_of (get_or tp 0 0)) 0) r tp room
 data_if r tp room h left c e g len able bytes long p k more said s whole full stream = by (eqb (version_of (get_or tp 0 0)) 0) refl
   where
@@ -284,20 +282,20 @@ module _ (r : Receiver) (tp m : List ℕ) (able : Able r) (full : length m ≡ r
       by (Judged h) l o = omega (arith, l)
       by (Body h left) l o = o h left refl
 
-  pub has_kept : r.walk.kept ≡ Empty → ⊥
+  pub has_kept : r.walk.kept ≡ None → ⊥
   has_kept e = let l = subst Keeping e i.kept in omega (arith, l)
 
-  module _ (h : Header) (left c e : ℕ) (g : Place) (len : ℕ) (p : r.walk.phase ≡ Body h left) (k : r.walk.kept ≡ Of c e g len) where
+  module _ (h : Header) (left c e : ℕ) (g : Place) (len : ℕ) (p : r.walk.phase ≡ Body h left) (k : r.walk.kept ≡ kept_by c e g len) where
     pub taken_less : length tp - 4 < left
     taken_less = subst (LeftOver (length tp - 4)) p i.more
 
     pub taken_fits : len + left ≤ length m
     taken_fits = let f : len + left ≤ r.limit = rw (p, k) at able.walk.phase in omega (arith, full, f)
 
-    pub taken_is : (n count : ℕ) → count ≡ count_of r.count → made_of r count Fresh (walk_at 0 (Body h (left - n)) r.walk.began (Of c e g (len + n))) ≡ taken_of r n
+    pub taken_is : (n count : ℕ) → count ≡ count_of r.count → made_of r count Fresh (walk_at 0 (Body h (left - n)) r.walk.began (kept_by c e g (len + n))) ≡ taken_of r n
     taken_is n count q =
-        rw q (ap (λ (q : Phase). made_of r (count_of r.count) Fresh (walk_at 0 (less_by n q) r.walk.began (Of c e g (len + n)))) (sym p)
-        ∙ ap (λ (q : Kept). made_of r (count_of r.count) Fresh (walk_at 0 (less_by n r.walk.phase) r.walk.began (grown_by n q))) (sym k))
+        rw q (ap (λ (q : Phase). made_of r (count_of r.count) Fresh (walk_at 0 (less_by n q) r.walk.began (kept_by c e g (len + n)))) (sym p)
+        ∙ ap (λ (q : Option Kept). made_of r (count_of r.count) Fresh (walk_at 0 (less_by n r.walk.phase) r.walk.began (grown_by n q))) (sym k))
 
     pub taken_put : (m' : List ℕ) → m' ≡ copied m len (take (length tp - 4) (drop 4 tp)) → m' ≡ put_of r tp m
     taken_put m' q =

@@ -3,18 +3,17 @@
 -- the place at which it began is looked at by no call, and by no contract. Assumes nothing.
 use mathlib.Core.Path.{ap, refl, sym, ◌∙◌, ◌≡◌}
 use mathlib.Core.Bool.{Bool, cond, false, true}
-use mathlib.Core.Option.{Option, none, some}
 use mathlib.Core.List.{List, [], ◌++◌, ◌∷◌}
 use Prim.Native.Nat.{suc, zero, ℕ, ◌%◌, ◌-◌, ◌/◌, ◌<◌, ◌^◌}
 use native.Mathlib.Omega.{arith}
 use lib.Dec.{eqb, leb}
 use lib.ListN.{drop, get_or, length, take}
 use borrow.Author.Tests.{ne_eqb}
+use Rattle.std.specs.Prelude.{None, Some, Option}
 use Rattle.digits.specs.Digits.{digits, number}
 use Rattle.wire.specs.Reading.{stream_of, tp_number_in, version_of}
 use Rattle.wire.specs.declared.Header.{Header}
 use Rattle.receiver.specs.declared.Find.{Find}
-use Rattle.receiver.specs.declared.Opened.{Opened}
 use Rattle.receiver.specs.declared.Place.{Place}
 use Rattle.receiver.specs.declared.Receiver.{Receiver}
 use Rattle.receiver.specs.declared.Stage.{Stage}
@@ -23,7 +22,6 @@ use Rattle.receiver.specs.declared.Step.{Step}
 use Rattle.receiver.specs.declared.low.Lows.{Lows}
 use Rattle.receiver.specs.declared.stages.Stamps.{Stamps}
 use Rattle.receiver.specs.declared.walk.Kept.{Kept}
-use Rattle.receiver.specs.declared.walk.Kept.TheVariants.{Empty, Of}
 use Rattle.receiver.specs.declared.walk.Phase.{Phase}
 use Rattle.receiver.specs.declared.walk.Phase.TheVariants.{Body, Head, Judged, Lost}
 use Rattle.receiver.specs.Call.{Answered, Gave, Gives, OpenedAs, Said, call_as, counted_of, due_call, first_call, gone, leave, low_call, moved, ordinary_by, ordinary_call, payload_call, pending_by, pending_of, said_of, says, stage_call, start_call, stepped, unchanged, walk_to, word_call}
@@ -34,11 +32,10 @@ use Rattle.receiver.specs.Low.{Ep, Tag, ep_at, tag_of, wire}
 use Rattle.receiver.specs.Place.{own_of, place_at, placed, start_of}
 use Rattle.receiver.specs.Lows.{lows_of}
 use Rattle.receiver.specs.Pull.{Pulled, meet, pull}
-use Rattle.receiver.specs.State.{Fine, frame_of, from, headed, held_of, keeps, pull_of, todo_of}
+use Rattle.receiver.specs.State.{Fine, frame_of, from, headed, held_of, keeps, pull_of, todo_of, kept_by}
 use Rattle.receiver.proofs.Heading.{length_digits, number_digits}
 use Rattle.receiver.specs.declared.Find.TheVariants as F
 use Rattle.receiver.specs.declared.Stage.TheVariants as S
-use Rattle.receiver.specs.declared.Unfinished.TheVariants as P
 use Rattle.receiver.specs.declared.low.Lows.TheVariants as L
 
 -- the place at which the header or EP under way began; place 0 of no TP where none is
@@ -119,7 +116,7 @@ alike_head : (g g' : Place) (n w n' w' : ℕ) → w < 256 ^ n → w' < 256 ^ n' 
 alike_head g g' n w n' w' a b e =
     (same_head g g' n w n' w' a b e, sym (place_headed g n w) ∙ ap place_of e ∙ place_headed g' n' w')
 
-same_phase : (c c' : ℕ) (g g' : Place) (p q : Phase) (k l : Kept) → Fine c p k → Fine c' q l → frame_of g p ≡ frame_of g' q → todo_of g p ≡ todo_of g' q → Alike g g' p q
+same_phase : (c c' : ℕ) (g g' : Place) (p q : Phase) (k l : Option Kept) → Fine c p k → Fine c' q l → frame_of g p ≡ frame_of g' q → todo_of g p ≡ todo_of g' q → Alike g g' p q
 same_phase c c' g g' Lost Lost k l a b e f = (refl, refl)
 same_phase c c' g g' Lost (Head n w) k l a b e f = absurd (no_head g' n w 0 lost refl (λ z. omega arith) (sym e))
 same_phase c c' g g' Lost (Judged h) k l a b e f = (cc, cc)
@@ -156,19 +153,20 @@ same_phase c c' g g' (Body h (suc n)) (Body i (suc j)) k l a b e f =
     let x : h ≡ i = ap (λ (h : Ep). h.header) z in
     (cc, ap (λ (h : Ep). h.at) z)
 
-same_kept : (m : List ℕ) (k l : Kept) → held_of k m ≡ held_of l m → keeps k ≡ keeps l → k ≡ l
-same_kept m Empty Empty e f = refl
-same_kept m Empty (Of c sum g n) e f = cc
-same_kept m (Of c sum g n) Empty e f = cc
-same_kept m (Of c sum g n) (Of d sum' g' i) e f =
-    let t : tag_of c sum g ≡ tag_of d sum' g' = cc in
-    let p : c ≡ d = ap (λ (t : Tag). t.content) t in
-    let q : sum ≡ sum' = ap (λ (t : Tag). t.repaired) t in
-    let r : g ≡ g' = ap (λ (t : Tag). t.at) t in
-    cc
+same_kept : (m : List ℕ) (k l : Option Kept) → held_of k m ≡ held_of l m → keeps k ≡ keeps l → k ≡ l
+same_kept m None None e f = refl
+same_kept m None (Some k) e f = cc
+same_kept m (Some k) None e f = cc
+same_kept m (Some k) (Some held) e f =
+    let t : tag_of k.content k.repaired k.began ≡ tag_of held.content held.repaired held.began = cc in
+    let p : k.content ≡ held.content = ap (λ (t : Tag). t.content) t in
+    let q : k.repaired ≡ held.repaired = ap (λ (t : Tag). t.repaired) t in
+    let r : k.began ≡ held.began = ap (λ (t : Tag). t.at) t in
+    ap (λ (c : ℕ). kept_by c k.repaired k.began k.len) p ∙ ap (λ (e : ℕ). kept_by held.content e k.began k.len) q
+    ∙ ap (λ (g : Place). kept_by held.content held.repaired g k.len) r ∙ ap (λ (n : ℕ). kept_by held.content held.repaired held.began n) f
 
 -- a step from its parts
-unfoldable build : ℕ → ℕ → ℕ → ℕ → Stage → ℕ → Phase → Place → Kept → Find → ℕ → Place → Step
+unfoldable build : ℕ → ℕ → ℕ → ℕ → Stage → ℕ → Phase → Place → Option Kept → Find → ℕ → Place → Step
 build size stream limit count stage at p g k f e b = record {
   receiver = record { size = size; stream = stream; limit = limit; count = count; stage = stage; walk = record { at = at; phase = p; began = g; kept = k } };
   find = f;
@@ -204,7 +202,7 @@ pinned g tp q q' m m' a b =
     let kept = same_kept m w.kept w'.kept held (ap (λ (g : Gave). g.kept) e) in
     (built q ∙ same_built size stream limit count stage at phase.0 phase.1 kept find repaired place ∙ sym (built q'), room)
   where
-    same_built : {a a' b b' c c' d d' : ℕ} {s s' : Stage} {i i' : ℕ} {p p' : Phase} {g g' : Place} {k k' : Kept} {f f' : Find} {t t' : ℕ} {u u' : Place}
+    same_built : {a a' b b' c c' d d' : ℕ} {s s' : Stage} {i i' : ℕ} {p p' : Phase} {g g' : Place} {k k' : Option Kept} {f f' : Find} {t t' : ℕ} {u u' : Place}
         → a ≡ a' → b ≡ b' → c ≡ c' → d ≡ d' → s ≡ s' → i ≡ i' → p ≡ p' → g ≡ g' → k ≡ k' → f ≡ f' → t ≡ t' → u ≡ u'
         → build a b c d s i p g k f t u ≡ build a' b' c' d' s' i' p' g' k' f' t' u'
     same_built x y z d u v w g k f t b = cc
@@ -236,10 +234,10 @@ module _ (r : Receiver) (t : Stamp) (tp m : List ℕ) where
       ∙ ap (λ (es : List (Event wire)). leave r stage at (From r.walk.began) es s (keeps r.walk.kept) a m) (same_todo r.walk.phase r.walk.began)
 
   ordinary_alike : (x : Option (Finding wire)) (p : Pulled wire) → ordinary_by x (plainly r) t p ≡ ordinary_by x r t p
-  ordinary_alike none p = refl
-  ordinary_alike (some (notice n g)) p = refl
-  ordinary_alike (some (low c d)) p = refl
-  ordinary_alike (some (ordinary c d)) p = refl
+  ordinary_alike None p = refl
+  ordinary_alike (Some (notice n g)) p = refl
+  ordinary_alike (Some (low c d)) p = refl
+  ordinary_alike (Some (ordinary c d)) p = refl
 
   start_alike : (at : ℕ) (x : Start wire) → start_call (plainly r) t at x tp m ≡ start_call r t at x tp m
   start_alike at x = let p = from (length m) t x (walk_to r at) tp m in ordinary_alike p.find p
@@ -260,11 +258,11 @@ module _ (r : Receiver) (t : Stamp) (tp m : List ℕ) where
   payload_alike false o = due_alike o 4
 
   word_alike : (o : Option ℕ) → word_call o (plainly r) t tp m ≡ word_call o r t tp m
-  word_alike none = refl
-  word_alike (some w) = payload_alike (leb 2048 w) (w % 2048)
+  word_alike None = refl
+  word_alike (Some w) = payload_alike (leb 2048 w) (w % 2048)
 
   still_alike : (f : Find) (n : ℕ) → unchanged (plainly r) t f n m ≡ unchanged r t f n m
-  still_alike f n = moved_alike r.stage r.walk.at (says f (some n) (start_of t))
+  still_alike f n = moved_alike r.stage r.walk.at (says f (Some n) (start_of t))
 
 module _ (r : Receiver) (n : Stamps) (tp m : List ℕ) where
   abbrev C : Receiver
@@ -312,17 +310,17 @@ module _ (r : Receiver) (n : Stamps) (tp m : List ℕ) where
 pub unlooked_pending : (r : Receiver) → pending_of (plainly r).walk ≡ pending_of r.walk
 unlooked_pending r = by r.walk.kept r.walk.phase
   where
-    by : (k : Kept) (p : Phase) → pending_by k p (began_in p r.walk.began) ≡ pending_by k p r.walk.began
-    by (Of c e b n) p = refl
-    by Empty Lost = refl
-    by Empty (Head n w) = under (eqb n 0) refl
+    by : (k : Option Kept) (p : Phase) → pending_by k p (began_in p r.walk.began) ≡ pending_by k p r.walk.began
+    by (Some k) p = refl
+    by None Lost = refl
+    by None (Head n w) = under (eqb n 0) refl
       where
-        under : (b : Bool) → eqb n 0 ≡ b → cond b P.Nothing (P.From (cond b (start_of (own_of 0)) r.walk.began)) ≡ cond b P.Nothing (P.From r.walk.began)
+        under : (b : Bool) → eqb n 0 ≡ b → cond b None (Some (cond b (start_of (own_of 0)) r.walk.began)) ≡ cond b None (Some r.walk.began)
         under true q = refl
         under false q = refl
-    by Empty (Judged h) = refl
-    by Empty (Body h n) = refl
+    by None (Judged h) = refl
+    by None (Body h n) = refl
 
 -- an opening and a told gap are equations already
-pub opening_pinned : (size stream limit : ℕ) (q q' : Opened) → OpenedAs size stream limit q → OpenedAs size stream limit q' → q ≡ q'
+pub opening_pinned : (size stream limit : ℕ) (q q' : Option Receiver) → OpenedAs size stream limit q → OpenedAs size stream limit q' → q ≡ q'
 opening_pinned size stream limit q q' a b = ap (λ (x : Answered). x.opened) (a.same ∙ sym b.same)

@@ -8,23 +8,18 @@ use native.Mathlib.Omega.{arith}
 use lib.Dec.{eqb, ltb}
 use lib.ListN.{drop, length, length-replicate, replicate}
 use borrow.Author.Tests.{eq-eqb, eqb-true, le-ltb, ne_eqb}
+use Rattle.std.specs.Prelude.{Err, Ok, Result, None, Option, Some}
+use Rattle.wire.specs.declared.Header.{Header}
 use Rattle.receiver.specs.declared.Receiver.{Receiver}
 use Rattle.receiver.specs.declared.Stage.{Stage}
 use Rattle.receiver.specs.declared.Stage.TheVariants.{Due, Fresh, Low, Plain}
 use Rattle.receiver.specs.declared.Turned as D
 use Rattle.receiver.specs.declared.entry.Top.{Top}
 use Rattle.receiver.specs.declared.entry.Top.TheVariants.{Dropped, Elsewhere, Says}
-use Rattle.receiver.specs.declared.low.Llep.{Llep}
-use Rattle.receiver.specs.declared.low.Llep.TheVariants.{Broken, Whole}
 use Rattle.receiver.specs.declared.outset.Fore.{Fore}
 use Rattle.receiver.specs.declared.outset.Fore.TheVariants.{At, Bad, Off}
-use Rattle.receiver.specs.declared.outset.Offset.{Offset}
-use Rattle.receiver.specs.declared.outset.Offset.TheVariants.{Behind, Outside}
-use Rattle.receiver.specs.declared.outset.Start.{Start}
-use Rattle.receiver.specs.declared.outset.Start.TheVariants as S
 use Rattle.receiver.specs.declared.walk.Gain.{Gain}
 use Rattle.receiver.specs.declared.walk.Gain.TheVariants as G
-use Rattle.receiver.specs.declared.walk.Kept.TheVariants.{Empty}
 use Rattle.receiver.specs.declared.walk.Turn.{Turn}
 use Rattle.receiver.specs.declared.walk.Turn.TheVariants.{More, Stop}
 use Rattle.receiver.specs.declared.walk.Walk.{Walk}
@@ -57,23 +52,23 @@ module _ (r : Receiver) (tp : List ℕ) (able : Able r) (whole : length tp ≡ r
   top_in_lem (Dropped n) = let z = able.size in record { from = omega arith; to = omega arith; fits = omega arith }
   top_in_lem (Says has o) = let z = able.size in record { from = omega arith; to = omega arith; fits = omega arith }
 
-  llep_in : (o : ℕ) (l : Llep) → llep (drop r.walk.at tp) ≡ l → Within (llep_turn l r o (length tp)).piece (length tp) r.limit
-  llep_in o Broken e = record { from = here; to = omega arith; fits = omega arith }
-  llep_in o (Whole h more) e = record { from = omega arith; to = inside_at tp r.walk.at h more e; fits = omega arith }
+  llep_in : (o : ℕ) (l : Option (Header × Bool)) → llep (drop r.walk.at tp) ≡ l → Within (llep_turn l r o (length tp)).piece (length tp) r.limit
+  llep_in o None e = record { from = here; to = omega arith; fits = omega arith }
+  llep_in o (Some (h, more)) e = record { from = omega arith; to = inside_at tp r.walk.at h more e; fits = omega arith }
 
   out_in : (n : ℕ) (f : Fore) → r.walk.at + n ≤ length tp → Within (out_turn (out_by f r.walk n (length tp)) r n (length tp)).piece (length tp) r.limit
   out_in n Off l = record { from = omega arith; to = l; fits = omega arith }
   out_in n Bad l = record { from = omega arith; to = l; fits = omega arith }
   out_in n (At k) l = by (eqb k n)
     where
-      by : (b : Bool) → Within (out_turn (cond b (S.Reads r.walk) (S.Loses 13)) r n (length tp)).piece (length tp) r.limit
+      by : (b : Bool) → Within (out_turn (cond {A = Result Walk ℕ} b (Ok r.walk) (Err 13)) r n (length tp)).piece (length tp) r.limit
       by true = record { from = omega arith; to = here; fits = omega arith }
       by false = record { from = omega arith; to = l; fits = omega arith }
 
-  due_in : (o : ℕ) (p : Offset) → place_of o r.walk.at (length tp) ≡ p → Within (due_turn p r tp).piece (length tp) r.limit
+  due_in : (o : ℕ) (p : Result ℕ ℕ) → place_of o r.walk.at (length tp) ≡ p → Within (due_turn p r tp).piece (length tp) r.limit
   unfolding set_out_of
-  due_in o (Outside n) e = record { from = here; to = omega arith; fits = omega arith }
-  due_in o (Behind n) e = out_in n (fore_of r.walk.phase (drop r.walk.at tp)) (behind_in o r.walk.at (length tp) n here e)
+  due_in o (Err n) e = record { from = here; to = omega arith; fits = omega arith }
+  due_in o (Ok n) e = out_in n (fore_of r.walk.phase (drop r.walk.at tp)) (behind_in o r.walk.at (length tp) n here e)
 
   turned_in : (t : Turn) (m m' : List ℕ) → Carries r.limit (stamp_of r) r.walk tp m t m' → (walk_of t).at ≤ length tp
   unfolding Carries
@@ -121,9 +116,9 @@ module _ (r : Receiver) (tp : List ℕ) (able : Able r) (whole : length tp ≡ r
   top_near (Dropped n) e = let q = drops_small r.stream tp n e in rw (le-ltb 9 n q) (omega arith)
   top_near (Says has o) e = omega (arith, low_near has o 4)
 
-  llep_near : (o : ℕ) (l : Llep) → llep (drop r.walk.at tp) ≡ l → NearBy (Low o) (llep_turn l r o (length tp))
-  llep_near o Broken e = omega arith
-  llep_near o (Whole h more) e =
+  llep_near : (o : ℕ) (l : Option (Header × Bool)) → llep (drop r.walk.at tp) ≡ l → NearBy (Low o) (llep_turn l r o (length tp))
+  llep_near o None e = omega arith
+  llep_near o (Some (h, more)) e =
       sure (told_goes_on (told_of (kind_of h) h r.walk.at)) _ _ (by more (inside_at tp r.walk.at h more e))
     where
       by : (more : Bool) → r.walk.at + 7 + h.size ≤ length tp
@@ -131,13 +126,13 @@ module _ (r : Receiver) (tp : List ℕ) (able : Able r) (whole : length tp ≡ r
       by true l = omega arith
       by false l = omega arith
 
-  out_near : (o n : ℕ) (s : Start) → NearBy (Due o) (out_turn s r n (length tp))
-  out_near o n (S.Reads x) = omega (arith, plain_near x)
-  out_near o n (S.Loses i) = sure (ltb 9 i) _ _ (omega (arith, plain_near (record { at = r.walk.at + n; phase = upon_of (r.walk.at + n) (length tp); began = r.walk.began; kept = Empty })))
+  out_near : (o n : ℕ) (s : Result Walk ℕ) → NearBy (Due o) (out_turn s r n (length tp))
+  out_near o n (Ok x) = omega (arith, plain_near x)
+  out_near o n (Err i) = sure (ltb 9 i) _ _ (omega (arith, plain_near (record { at = r.walk.at + n; phase = upon_of (r.walk.at + n) (length tp); began = r.walk.began; kept = None })))
 
-  due_near : (o : ℕ) (p : Offset) → NearBy (Due o) (due_turn p r tp)
-  due_near o (Outside n) = sure (ltb 9 n) _ _ (omega arith)
-  due_near o (Behind n) = out_near o n (set_out_of r.walk n tp)
+  due_near : (o : ℕ) (p : Result ℕ ℕ) → NearBy (Due o) (due_turn p r tp)
+  due_near o (Err n) = sure (ltb 9 n) _ _ (omega arith)
+  due_near o (Ok n) = out_near o n (set_out_of r.walk n tp)
 
   tell_near : (t : Turn) → LessBy (gain_of t) (toil (length tp) (walk_of t)) (toil (length tp) r.walk) → NearBy Plain (ordinary_turn t r)
   tell_near (More x) l = omega arith

@@ -1,9 +1,9 @@
 -- Among ordinary bytes a call takes the first of the finds to come, and leaves the others. Assumes nothing.
 use mathlib.Core.Path.{ap, refl, sym, ◌∙◌, ◌≡◌}
-use mathlib.Core.Option.{none, some}
 use mathlib.Core.List.{List, [], ◌++◌, ◌∷◌}
 use Prim.Native.Nat.{suc, zero, ℕ}
 use lib.ListN.{drop}
+use Rattle.std.specs.Prelude.{None, Some}
 use Rattle.receiver.specs.Frame.{Code, Event, Frame, after, events, step}
 use Rattle.receiver.specs.Join.{Finding, Held, Took, finds, holding, listed, stored, take_in}
 use Rattle.receiver.specs.Pull.{Met, Pulled, dry, found, meet, met, pull}
@@ -51,8 +51,8 @@ module _ (C : Code) (cap : ℕ) where
       → then_does (listed C T.1) (does T.0 (es ++ more))
       ≡ then_does (met_find (met C T.1 T.0 m es (meet C cap T.0 m es)))
       (does (stands (met C T.1 T.0 m es (meet C cap T.0 m es))) (left (met C T.1 T.0 m es (meet C cap T.0 m es)) ++ more))
-  met_rest (s, none) m es more e = e
-  met_rest (s, some x) m es more e = refl
+  met_rest (s, None) m es more e = e
+  met_rest (s, Some x) m es more e = refl
 
   meet_rest : (s : Held C) (m : List C.K) (es more : List (Event C))
       → does s (es ++ more) ≡ then_does (met_find (meet C cap s m es)) (does (stands (meet C cap s m es)) (left (meet C cap s m es) ++ more))
@@ -82,7 +82,7 @@ module _ (C : Code) (cap : ℕ) where
       ∙ ap (λ (p : Pulled C). ahead_of (listed C p.find) (coming p.held p.todo p.frame (drop p.at tp))) e
 
   -- and where it says none, nothing is left
-  none_met : (tp bs : List C.B) (f : Frame C) (at : ℕ) (x : Met C) → drop at tp ≡ bs → (pull C cap f at x bs).find ≡ none
+  none_met : (tp bs : List C.B) (f : Frame C) (at : ℕ) (x : Met C) → drop at tp ≡ bs → (pull C cap f at x bs).find ≡ None
       → ((pull C cap f at x bs).todo ≡ []) × (drop (pull C cap f at x bs).at tp ≡ [])
   none_met tp [] f at (found x s m es) e q = (cc, cc)
   none_met tp (b ∷ bs) f at (found x s m es) e q = (cc, cc)
@@ -90,7 +90,7 @@ module _ (C : Code) (cap : ℕ) where
   none_met tp (b ∷ bs) f at (dry s m) e q = none_met tp bs (step C f b).0 (suc at) (meet C cap s m (step C f b).1) (drop_next b bs tp at e) q
 
   pub none_left : (tp : List C.B) (f : Frame C) (at : ℕ) (s : Held C) (m : List C.K) (es : List (Event C)) (p : Pulled C)
-      → pull C cap f at (meet C cap s m es) (drop at tp) ≡ p → p.find ≡ none → coming s es f (drop at tp) ≡ ([], (p.held, p.frame))
+      → pull C cap f at (meet C cap s m es) (drop at tp) ≡ p → p.find ≡ None → coming s es f (drop at tp) ≡ ([], (p.held, p.frame))
   none_left tp f at s m es p e q =
       let z = none_met tp (drop at tp) f at (meet C cap s m es) refl (ap (λ (p : Pulled C). p.find) e ∙ q) in
       let t : p.todo ≡ [] = sym (ap (λ (p : Pulled C). p.todo) e) ∙ z.0 in

@@ -7,21 +7,16 @@ use Prim.Native.Nat.{ℕ}
 use lib.Dec.{eqb}
 use lib.ListN.{drop, length}
 use borrow.Author.Tests.{eq-eqb}
+use Rattle.std.specs.Prelude.{None, Option, Err, Ok, Result, Some}
+use Rattle.wire.specs.declared.Header.{Header}
+use Rattle.receiver.specs.declared.Find.{Find}
 use Rattle.receiver.specs.declared.Receiver.{Receiver}
 use Rattle.receiver.specs.declared.Stamp.{Stamp}
 use Rattle.receiver.specs.declared.Stage.{Stage}
 use Rattle.receiver.specs.declared.Stage.TheVariants.{Due, Fresh, Low, Plain}
-use Rattle.receiver.specs.declared.Told.{Told}
-use Rattle.receiver.specs.declared.Told.TheVariants as T
 use Rattle.receiver.specs.declared.Turned.{Turned}
 use Rattle.receiver.specs.declared.entry.Top.{Top}
 use Rattle.receiver.specs.declared.entry.Top.TheVariants.{Dropped, Elsewhere, Says}
-use Rattle.receiver.specs.declared.low.Llep.{Llep}
-use Rattle.receiver.specs.declared.low.Llep.TheVariants as L
-use Rattle.receiver.specs.declared.outset.Offset.{Offset}
-use Rattle.receiver.specs.declared.outset.Offset.TheVariants.{Behind, Outside}
-use Rattle.receiver.specs.declared.outset.Start.{Start}
-use Rattle.receiver.specs.declared.outset.Start.TheVariants as S
 use Rattle.receiver.specs.declared.walk.Gain.{Gain}
 use Rattle.receiver.specs.declared.walk.Gain.TheVariants as G
 use Rattle.receiver.specs.declared.walk.Turn.{Turn}
@@ -55,17 +50,17 @@ module _ (r : Receiver) where
   top_lasts (Dropped n) len = kept _ _ _
   top_lasts (Says has o) len = kept _ _ _
 
-  llep_lasts : (l : Llep) (o len : ℕ) → Lasts r (llep_turn l r o len).receiver
-  llep_lasts L.Broken o len = kept _ _ _
-  llep_lasts (L.Whole h more) o len = kept _ _ _
+  llep_lasts : (l : Option (Header × Bool)) (o len : ℕ) → Lasts r (llep_turn l r o len).receiver
+  llep_lasts None o len = kept _ _ _
+  llep_lasts (Some (h, more)) o len = kept _ _ _
 
-  out_lasts : (s : Start) (n len : ℕ) → Lasts r (out_turn s r n len).receiver
-  out_lasts (S.Reads x) n len = kept _ _ _
-  out_lasts (S.Loses i) n len = kept _ _ _
+  out_lasts : (s : Result Walk ℕ) (n len : ℕ) → Lasts r (out_turn s r n len).receiver
+  out_lasts (Ok x) n len = kept _ _ _
+  out_lasts (Err i) n len = kept _ _ _
 
-  due_lasts : (p : Offset) (tp : List ℕ) → Lasts r (due_turn p r tp).receiver
-  due_lasts (Outside n) tp = kept _ _ _
-  due_lasts (Behind n) tp = out_lasts (set_out_of r.walk n tp) n (length tp)
+  due_lasts : (p : Result ℕ ℕ) (tp : List ℕ) → Lasts r (due_turn p r tp).receiver
+  due_lasts (Err n) tp = kept _ _ _
+  due_lasts (Ok n) tp = out_lasts (set_out_of r.walk n tp) n (length tp)
 
   tell_lasts : (g : Gain) (t : Stamp) (w : Walk) → Lasts r (tell_of g r t w).receiver
   tell_lasts G.Nothing t w = kept _ _ _
@@ -98,7 +93,7 @@ module _ (r : Receiver) where
   in_stage g = receiver_with r g r.walk
 
   abbrev Stays : Turned → Stage → Type 0
-  Stays x g = x.told ≡ T.More → (stamps_of x.receiver).now ≡ (stamps_of (in_stage g)).now
+  Stays x g = x.told ≡ None → (stamps_of x.receiver).now ≡ (stamps_of (in_stage g)).now
 
   top_stays : (t : Top) (len : ℕ) → Stays (top_turn t (in_stage Fresh) len) Fresh
   top_stays Elsewhere len e = cc
@@ -106,18 +101,18 @@ module _ (r : Receiver) where
   top_stays (Says true o) len e = refl
   top_stays (Says false o) len e = refl
 
-  llep_stays : (l : Llep) (o len : ℕ) → Stays (llep_turn l (in_stage (Low o)) o len) (Low o)
-  llep_stays L.Broken o len e = cc
-  llep_stays (L.Whole h true) o len e = refl
-  llep_stays (L.Whole h false) o len e = refl
+  llep_stays : (l : Option (Header × Bool)) (o len : ℕ) → Stays (llep_turn l (in_stage (Low o)) o len) (Low o)
+  llep_stays None o len e = cc
+  llep_stays (Some (h, true)) o len e = refl
+  llep_stays (Some (h, false)) o len e = refl
 
-  out_stays : (s : Start) (o n len : ℕ) → Stays (out_turn s (in_stage (Due o)) n len) (Due o)
-  out_stays (S.Reads x) o n len e = refl
-  out_stays (S.Loses i) o n len e = cc
+  out_stays : (s : Result Walk ℕ) (o n len : ℕ) → Stays (out_turn s (in_stage (Due o)) n len) (Due o)
+  out_stays (Ok x) o n len e = refl
+  out_stays (Err i) o n len e = cc
 
-  due_stays : (p : Offset) (o : ℕ) (tp : List ℕ) → Stays (due_turn p (in_stage (Due o)) tp) (Due o)
-  due_stays (Outside n) o tp e = cc
-  due_stays (Behind n) o tp e = out_stays (set_out_of r.walk n tp) o n (length tp) e
+  due_stays : (p : Result ℕ ℕ) (o : ℕ) (tp : List ℕ) → Stays (due_turn p (in_stage (Due o)) tp) (Due o)
+  due_stays (Err n) o tp e = cc
+  due_stays (Ok n) o tp e = out_stays (set_out_of r.walk n tp) o n (length tp) e
 
   plain_stays : (t : Turn) → Stays (ordinary_turn t (in_stage Plain)) Plain
   plain_stays (More x) e = refl
@@ -129,25 +124,25 @@ module _ (r : Receiver) where
   stage_stays (Due o) tp e = due_stays (place_of o r.walk.at (length tp)) o tp e
   stage_stays Plain tp e = plain_stays (advance_of r.limit (stamp_of r) r.walk tp) e
 
-turn_stamps : (r : Receiver) (tp : List ℕ) → length tp ≡ r.size → (turn_of r tp).told ≡ T.More → (stamps_of (turn_of r tp).receiver).now ≡ (stamps_of r).now
+turn_stamps : (r : Receiver) (tp : List ℕ) → length tp ≡ r.size → (turn_of r tp).told ≡ None → (stamps_of (turn_of r tp).receiver).now ≡ (stamps_of r).now
 unfolding turn_of
 turn_stamps r tp w = by (eqb (length tp) r.size) (eq-eqb (length tp) r.size w)
   where
-    by : (x : Bool) → x ≡ true → ((cond {A = Turned} x (stage_turn r.stage r tp) (same_turn r 6)).told ≡ T.More)
+    by : (x : Bool) → x ≡ true → ((cond {A = Turned} x (stage_turn r.stage r tp) (same_turn r 6)).told ≡ None)
         → (stamps_of (cond {A = Turned} x (stage_turn r.stage r tp) (same_turn r 6)).receiver).now ≡ (stamps_of r).now
     by true z e = stage_stays r r.stage tp e
     by false z e = cc
 
 -- THE FINDS TO COME stay, where a turn gives none
-pub turn_coming : (r : Receiver) (tp m : List ℕ) → Able r → Bytes tp → length m ≡ r.limit → length tp ≡ r.size → (turn_of r tp).told ≡ T.More
+pub turn_coming : (r : Receiver) (tp m : List ℕ) → Able r → Bytes tp → length m ≡ r.limit → length tp ≡ r.size → (turn_of r tp).told ≡ None
     → coming_of (turn_of r tp).receiver.stage (turn_of r tp).receiver (stamps_of (turn_of r tp).receiver) tp (put_of (turn_of r tp).piece tp m)
     ≡ coming_of r.stage r (stamps_of r) tp m
 turn_coming r tp m a b f w e =
     let q = (turn_of r tp).receiver in
     let m' = put_of (turn_of r tp).piece tp m in
     let s = turn_lasts r tp in
-    let n : Makes T.More (turn_of r tp).about r tp m (turn_of r tp).receiver (put_of (turn_of r tp).piece tp m) =
-    subst (λ (t : Told). Makes t (turn_of r tp).about r tp m (turn_of r tp).receiver (put_of (turn_of r tp).piece tp m)) e (turn_makes r tp m a b f) in
+    let n : Makes None (turn_of r tp).about r tp m (turn_of r tp).receiver (put_of (turn_of r tp).piece tp m) =
+    subst (λ (t : Option Find). Makes t (turn_of r tp).about r tp m (turn_of r tp).receiver (put_of (turn_of r tp).piece tp m)) e (turn_makes r tp m a b f) in
     call_rest q tp m' (turn_as r tp (turn_of r tp) a b refl).able n.0 (w ∙ sym s.size)
     ∙ ap (λ (g : Gave). afterwards q.limit (stamps_of q).now g tp) n.1
     ∙ ap (λ (cap : ℕ). afterwards cap (stamps_of q).now (call_of r tp m) tp) s.limit

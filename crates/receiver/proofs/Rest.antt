@@ -1,20 +1,19 @@
 -- The finds still to come of a begun TP: a call takes the first of them and leaves the others.
 -- Assumes nothing.
 use mathlib.Core.Path.{ap, refl, sym, ◌∙◌, ◌≡◌}
-use mathlib.Core.Bool.{cond}
-use mathlib.Core.Option.{Option, none, some}
+use mathlib.Core.Bool.{Bool, cond}
 use mathlib.Core.List.{List, [], ◌++◌, ◌∷◌}
 use Prim.Native.Nat.{suc, zero, ℕ, ◌+◌, ◌-◌}
 use native.Mathlib.Omega.{arith}
 use lib.ListN.{drop, length}
+use Rattle.std.specs.Prelude.{None, Some, Option}
+use Rattle.wire.specs.declared.Header.{Header}
 use Rattle.receiver.specs.declared.About.{About}
 use Rattle.receiver.specs.declared.Find.{Find}
 use Rattle.receiver.specs.declared.Place.{Place}
 use Rattle.receiver.specs.declared.Receiver.{Receiver}
 use Rattle.receiver.specs.declared.Stage.{Stage}
 use Rattle.receiver.specs.declared.Stamp.{Stamp}
-use Rattle.receiver.specs.declared.low.Llep.{Llep}
-use Rattle.receiver.specs.declared.low.Llep.TheVariants.{Broken, Whole}
 use Rattle.receiver.specs.Call.{Gave, Said, due_call, ordinary_by, ordinary_call, start_call, walk_to}
 use Rattle.receiver.specs.Forecast.{Start, dropped, outset}
 use Rattle.receiver.specs.Frame.{Event, Frame, lose, lost}
@@ -75,9 +74,9 @@ module _ (cap : ℕ) (t : Stamp) where
   abbrev pub broken_rest : Held wire → ℕ → List ℕ → Listing
   broken_rest s at tp = start_rest (dropped wire 11 (place_at t at) (placed t at (drop at tp))) s at tp
 
-  abbrev pub low_on : Llep → Frame wire → Held wire → ℕ → ℕ → List ℕ → (ℕ → Listing) → Listing
-  low_on Broken f s o at tp on = broken_rest s at tp
-  low_on (Whole h more) f s o at tp on =
+  abbrev pub low_on : Option (Header × Bool) → Frame wire → Held wire → ℕ → ℕ → List ℕ → (ℕ → Listing) → Listing
+  low_on None f s o at tp on = broken_rest s at tp
+  low_on (Some (h, more)) f s o at tp on =
       before (given (kind_of h) (place_at t at) h (drop at tp)) (cond more (on (at + 7 + h.size)) (due_rest f s o (at + 7 + h.size) tp))
 
   unfoldable pub low_rest : ℕ → Frame wire → Held wire → ℕ → ℕ → List ℕ → Listing
@@ -107,7 +106,7 @@ module _ (cap : ℕ) (t : Stamp) where
   by_start tp f at s m es p e = ap (λ l. pull wire cap f at (meet wire cap s m es) l) (there at tp) ∙ e
 
   first : (x : Finding wire) (tp : List ℕ) (f : Frame wire) (at : ℕ) (s : Held wire) (m : List ℕ) (es : List (Event wire)) (p : Pulled wire)
-      → Reads f at s m es tp p → p.find ≡ some x
+      → Reads f at s m es tp p → p.find ≡ Some x
       → plain_rest s es f at tp ≡ before (x ∷ []) (plain_rest p.held p.todo p.frame p.at tp)
   first x tp f at s m es p e q =
       ap (λ l. of (Q.coming wire cap s es f l)) (sym (there at tp))
@@ -117,12 +116,12 @@ module _ (cap : ℕ) (t : Stamp) where
 
   pub ordinary_call_by : (x : Option (Finding wire)) (r : Receiver) (tp : List ℕ) (f : Frame wire) (at : ℕ) (s : Held wire) (m : List ℕ) (es : List (Event wire)) (p : Pulled wire)
       → Reads f at s m es tp p → p.find ≡ x → plain_rest s es f at tp ≡ afterwards (ordinary_by x r t p) tp
-  ordinary_call_by none r tp f at s m es p e q =
+  ordinary_call_by None r tp f at s m es p e q =
       ap (λ l. of (Q.coming wire cap s es f l)) (sym (there at tp))
       ∙ ap of (Q.none_left wire cap (placed t 0 tp) f at s m es p (by_start tp f at s m es p e) q)
-  ordinary_call_by (some (notice n g)) r tp f at s m es p e q = first (notice n g) tp f at s m es p e q
-  ordinary_call_by (some (low c d)) r tp f at s m es p e q = first (low c d) tp f at s m es p e q
-  ordinary_call_by (some (ordinary c d)) r tp f at s m es p e q = first (ordinary c d) tp f at s m es p e q
+  ordinary_call_by (Some (notice n g)) r tp f at s m es p e q = first (notice n g) tp f at s m es p e q
+  ordinary_call_by (Some (low c d)) r tp f at s m es p e q = first (low c d) tp f at s m es p e q
+  ordinary_call_by (Some (ordinary c d)) r tp f at s m es p e q = first (ordinary c d) tp f at s m es p e q
 
   pub start_rest_lem : (r : Receiver) (x : Start wire) (at : ℕ) (tp m : List ℕ) → cap ≡ length m
       → start_rest x (held_of r.walk.kept m) at tp ≡ afterwards (start_call r t at x tp m) tp

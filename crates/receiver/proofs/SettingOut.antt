@@ -1,20 +1,18 @@
 -- What the forecast decides, and where reading resumes. Assumes nothing.
 use mathlib.Core.Path.{ap, refl, sym, ◌∙◌, ◌≡◌}
 use mathlib.Core.Bool.{Bool, cond, false, true}
-use mathlib.Core.Option.{Option, none, some}
 use mathlib.Core.List.{List, [], ◌∷◌}
 use Prim.Native.Nat.{min, suc, zero, ℕ, ◌+◌, ◌-◌, ◌<◌, ◌≤◌}
 use native.Mathlib.Omega.{arith}
 use lib.Dec.{eqb, ltb}
 use lib.ListN.{drop, length, length-drop}
 use borrow.Author.Tests.{eq-eqb, eqb-false, eqb-true, ltb-false, ltb-true, ne_eqb}
+use Rattle.std.specs.Prelude.{Err, Ok, Result, None, Option, Some}
 use Rattle.receiver.specs.declared.Place.{Place}
 use Rattle.receiver.specs.declared.Stamp.{Stamp}
 use Rattle.receiver.specs.declared.outset.Fore.{Fore}
 use Rattle.receiver.specs.declared.outset.Fore.TheVariants.{At, Bad, Off}
-use Rattle.receiver.specs.declared.outset.Start.TheVariants.{Loses, Reads}
 use Rattle.receiver.specs.declared.walk.Kept.{Kept}
-use Rattle.receiver.specs.declared.walk.Kept.TheVariants.{Empty, Of}
 use Rattle.receiver.specs.declared.walk.Phase.{Phase}
 use Rattle.receiver.specs.declared.walk.Phase.TheVariants.{Body, Head, Judged, Lost}
 use Rattle.receiver.specs.declared.walk.Walk.{Walk}
@@ -37,26 +35,26 @@ use Rattle.receiver.specs.Forecast as F
 
 pub by_off : (p : F.Phase) (o : Option ℕ) (z : Place) (f : Frame wire) (n : ℕ) (bs : List (Place × ℕ)) → seen p o ≡ Off → decide wire p z f n bs ≡ resume wire [] n bs
 by_off off o z f n bs e = refl
-by_off between none z f n bs e = cc
-by_off between (some k) z f n bs e = cc
-by_off inside none z f n bs e = cc
-by_off inside (some k) z f n bs e = cc
+by_off between None z f n bs e = cc
+by_off between (Some k) z f n bs e = cc
+by_off inside None z f n bs e = cc
+by_off inside (Some k) z f n bs e = cc
 
 pub by_bad : (p : F.Phase) (o : Option ℕ) (z : Place) (f : Frame wire) (n : ℕ) (bs : List (Place × ℕ)) → foretold wire f bs ≡ o → seen p o ≡ Bad
     → decide wire p z f n bs ≡ resume wire (lose 12 (since wire z f) ∷ []) n bs
 by_bad off o z f n bs q e = cc
-by_bad between none z f n bs q e = ap (λ (o : Option ℕ). judge wire o z f n bs) q
-by_bad between (some k) z f n bs q e = cc
-by_bad inside none z f n bs q e = ap (λ (o : Option ℕ). judge wire o z f n bs) q
-by_bad inside (some k) z f n bs q e = cc
+by_bad between None z f n bs q e = ap (λ (o : Option ℕ). judge wire o z f n bs) q
+by_bad between (Some k) z f n bs q e = cc
+by_bad inside None z f n bs q e = ap (λ (o : Option ℕ). judge wire o z f n bs) q
+by_bad inside (Some k) z f n bs q e = cc
 
 pub by_at : (k : ℕ) (p : F.Phase) (o : Option ℕ) (z : Place) (f : Frame wire) (n : ℕ) (bs : List (Place × ℕ)) → foretold wire f bs ≡ o → seen p o ≡ At k
     → decide wire p z f n bs ≡ agree wire (eqb k n) z f n bs
 by_at k off o z f n bs q e = cc
-by_at k between none z f n bs q e = cc
-by_at k between (some i) z f n bs q e = let y : i ≡ k = cc in ap (λ (o : Option ℕ). judge wire o z f n bs) q ∙ ap (λ (i : ℕ). agree wire (eqb i n) z f n bs) y
-by_at k inside none z f n bs q e = cc
-by_at k inside (some i) z f n bs q e = let y : i ≡ k = cc in ap (λ (o : Option ℕ). judge wire o z f n bs) q ∙ ap (λ (i : ℕ). agree wire (eqb i n) z f n bs) y
+by_at k between None z f n bs q e = cc
+by_at k between (Some i) z f n bs q e = let y : i ≡ k = cc in ap (λ (o : Option ℕ). judge wire o z f n bs) q ∙ ap (λ (i : ℕ). agree wire (eqb i n) z f n bs) y
+by_at k inside None z f n bs q e = cc
+by_at k inside (Some i) z f n bs q e = let y : i ≡ k = cc in ap (λ (o : Option ℕ). judge wire o z f n bs) q ∙ ap (λ (i : ℕ). agree wire (eqb i n) z f n bs) y
 
 within_seen : (g : Place) (h : Header) (n : ℕ) (bs : List (Place × ℕ)) → seen (phase wire (within wire (ep_at g h) n)) (foretold wire (within wire (ep_at g h) n) bs) ≡ At (min n (length bs))
 within_seen g h zero bs = ap (seen between) (fore_within (ep_at g h) 0 bs)
@@ -118,7 +116,7 @@ upon_todo g at len = by (ltb at len)
     by true = refl
     by false = refl
 
-pub upon_fine : (cap at len : ℕ) (k : Kept) → Roomy cap k 0 → Fine cap (upon_of at len) k
+pub upon_fine : (cap at len : ℕ) (k : Option Kept) → Roomy cap k 0 → Fine cap (upon_of at len) k
 unfolding upon_of
 upon_fine cap at len k r = by (ltb at len)
   where
@@ -126,12 +124,12 @@ upon_fine cap at len k r = by (ltb at len)
     by true = (omega arith, omega arith, r)
     by false = r
 
-pub roomy : (cap : ℕ) (p : Phase) (k : Kept) → Fine cap p k → Roomy cap k 0
+pub roomy : (cap : ℕ) (p : Phase) (k : Option Kept) → Fine cap p k → Roomy cap k 0
 roomy cap Lost k f = f
 roomy cap (Head n w) k f = f.2
 roomy cap (Judged h) k f = f
-roomy cap (Body h n) Empty f = f
-roomy cap (Body h n) (Of c sum b l) f = omega arith
+roomy cap (Body h n) None f = f
+roomy cap (Body h n) (Some k) f = omega arith
 
 pub settled_todo : (g : Place) (p : Phase) → Settled p → todo_of g p ≡ []
 settled_todo g Lost s = refl
@@ -156,7 +154,7 @@ module _ (w : Walk) (n : ℕ) (tp : List ℕ) where
   resumed t es m z = sym (ap (λ (x : Start wire). from (length m) t x w tp m) z)
 
   out_off : w.at + n ≤ length tp → Fores Off
-      → SetsOut w n tp (Reads (record { at = w.at + n; phase = upon_of (w.at + n) (length tp); began = w.began; kept = w.kept }))
+      → SetsOut w n tp (Ok (record { at = w.at + n; phase = upon_of (w.at + n) (length tp); began = w.began; kept = w.kept }))
   unfolding SetsOut pull_of
   out_off fits e =
       let v = upon_todo w.began (w.at + n) (length tp) in
@@ -168,7 +166,7 @@ module _ (w : Walk) (n : ℕ) (tp : List ℕ) where
       }
 
   lost_by : (i : ℕ) → ((t : Stamp) → start wire (start_of t) frame n (bytes t) ≡ resume wire (lose i (lost_at i t w.began) ∷ []) n (bytes t))
-      → SetsOut w n tp (Loses i)
+      → SetsOut w n tp (Err i)
   unfolding SetsOut shown
   lost_by i z = λ t m.
       let g = lost_at i t w.began in
@@ -176,17 +174,17 @@ module _ (w : Walk) (n : ℕ) (tp : List ℕ) where
       let v = upon_todo g (w.at + n) (length tp) in
       rw (u, v) (resumed t (lose i g ∷ []) m (z t))
 
-  out_bad : Fores Bad → SetsOut w n tp (Loses 12)
+  out_bad : Fores Bad → SetsOut w n tp (Err 12)
   out_bad e = lost_by 12 (λ t.
       by_bad (phase wire frame) (foretold wire frame (bytes t)) (start_of t) frame n (bytes t) refl (e t)
       ∙ ap (λ (g : Place). resume wire (lose 12 g ∷ []) n (bytes t)) (bad_since (start_of t) w.began w.phase (bytes t) (e t)))
 
-  out_else : (k : ℕ) → Fores (At k) → (k ≡ n → ⊥) → SetsOut w n tp (Loses 13)
+  out_else : (k : ℕ) → Fores (At k) → (k ≡ n → ⊥) → SetsOut w n tp (Err 13)
   out_else k e d = lost_by 13 (λ t.
       by_at k (phase wire frame) (foretold wire frame (bytes t)) (start_of t) frame n (bytes t) refl (e t)
       ∙ ap (λ (b : Bool). agree wire b (start_of t) frame n (bytes t)) (ne_eqb k n d))
 
-  out_agree : (k : ℕ) → Fores (At k) → k ≡ n → Settled w.phase → SetsOut w n tp (Reads w)
+  out_agree : (k : ℕ) → Fores (At k) → k ≡ n → Settled w.phase → SetsOut w n tp (Ok w)
   unfolding SetsOut set_out pull_of
   out_agree k e d s =
       let v = settled_todo w.began w.phase s in
@@ -215,7 +213,7 @@ module _ (w : Walk) (n : ℕ) (tp : List ℕ) where
       by Bad e = out_bad (any Bad e)
       by (At k) e = go (eqb k n) refl
         where
-          go : (b : Bool) → eqb k n ≡ b → SetsOut w n tp (cond b (Reads w) (Loses 13))
+          go : (b : Bool) → eqb k n ≡ b → SetsOut w n tp (cond {A = Result Walk ℕ} b (Ok w) (Err 13))
           go true q = out_agree k (any (At k) e) (eqb-true k n q) s
           go false q = out_else k (any (At k) e) (eqb-false k n q)
 
@@ -223,8 +221,8 @@ module _ (w : Walk) (n : ℕ) (tp : List ℕ) where
   unfolding set_out_of
   set_by f e = sym (ap (λ (f : Fore). out_by f w n (length tp)) e)
 
-  pub set_agree : (k : ℕ) → fore_of w.phase (drop w.at tp) ≡ At k → k ≡ n → Reads w ≡ set_out_of w n tp
-  set_agree k e q = sym (ap (λ (b : Bool). cond b (Reads w) (Loses 13)) (eq-eqb k n q)) ∙ set_by (At k) e
+  pub set_agree : (k : ℕ) → fore_of w.phase (drop w.at tp) ≡ At k → k ≡ n → Ok w ≡ set_out_of w n tp
+  set_agree k e q = sym (ap (λ (b : Bool). cond {A = Result Walk ℕ} b (Ok w) (Err 13)) (eq-eqb k n q)) ∙ set_by (At k) e
 
-  pub set_else : (k : ℕ) → fore_of w.phase (drop w.at tp) ≡ At k → (k ≡ n → ⊥) → Loses 13 ≡ set_out_of w n tp
-  set_else k e q = sym (ap (λ (b : Bool). cond b (Reads w) (Loses 13)) (ne_eqb k n q)) ∙ set_by (At k) e
+  pub set_else : (k : ℕ) → fore_of w.phase (drop w.at tp) ≡ At k → (k ≡ n → ⊥) → Err 13 ≡ set_out_of w n tp
+  set_else k e q = sym (ap (λ (b : Bool). cond {A = Result Walk ℕ} b (Ok w) (Err 13)) (ne_eqb k n q)) ∙ set_by (At k) e

@@ -4,14 +4,15 @@ use Prim.Native.Nat.{ℕ, zero, suc, ◌+◌, ◌-◌, ◌≤◌, ◌<◌, ◌%�
 use mathlib.Core.Path.{◌≡◌, refl, sym, ap, ◌∙◌, subst}
 use mathlib.Core.Logic.{◌⊎◌, inl, inr, ⊎_elim}
 use mathlib.Core.Bool.{Bool, true, false, cond, ◌&&◌}
-use mathlib.Core.Option.{Option, none, some}
 use mathlib.Core.List.{List, [], ◌∷◌, ◌++◌}
 use native.Mathlib.Omega.{arith}
 use lib.Dec.{eqb, leb, ltb}
 use lib.ListN.{length, take, drop, get_or, length-drop}
 use borrow.Author.Tests.{ltb-false, ne_eqb}
+use Rattle.std.specs.Prelude.{None, Some, Option}
 use Rattle.digits.specs.Digits.{number, digits}
 use Rattle.wire.specs.Reading.{tp_number_in, stream_of, version_of}
+use Rattle.wire.specs.declared.Header.{Header}
 use Rattle.receiver.specs.declared.Receiver.{Receiver}
 use Rattle.receiver.specs.declared.Stamp.{Stamp}
 use Rattle.receiver.specs.declared.Place.{Place}
@@ -19,11 +20,8 @@ use Rattle.receiver.specs.declared.Stage.{Stage}
 use Rattle.receiver.specs.declared.stages.Stamps.{Stamps}
 use Rattle.receiver.specs.declared.walk.Walk.{Walk}
 use Rattle.receiver.specs.declared.walk.Kept.{Kept}
-use Rattle.receiver.specs.declared.walk.Kept.TheVariants.{Empty, Of}
 use Rattle.receiver.specs.declared.walk.Phase.{Phase}
 use Rattle.receiver.specs.declared.walk.Phase.TheVariants.{Lost, Head, Judged, Body}
-use Rattle.receiver.specs.declared.low.Llep.{Llep}
-use Rattle.receiver.specs.declared.low.Llep.TheVariants.{Broken, Whole}
 use Rattle.receiver.specs.Place.{place_at, start_of, placed, own_of, count_of}
 use Rattle.receiver.specs.Frame.{Frame, lost, idle, head, body, Event, lose, gap, opened, entered, fed, closed, Out, ending, whole, step, after, events}
 use Rattle.receiver.specs.Forecast.{foretold, since, upon, resume, agree, judge, Way, stays, drops, gaps, goes, read, by_way, way_at}
@@ -31,15 +29,13 @@ use Rattle.receiver.specs.Join.{Finding, Held, free, take_in, holding}
 use Rattle.receiver.specs.Low.{wire, llep, Part, walked, walk, low_part}
 use Rattle.receiver.specs.Tp.{Setting, Brings, refusing, dropping, behind, low_part_if, worded, brings, Input, tp_in, gap_told, way_of, input_of, Stand, Listing, listing_of, stamping_of, counts, count_after, listing_all, events_all}
 use Rattle.receiver.specs.Loss.{Loss, Loses, count_all, offset_by, offset_of, LostFirst, NotBefore, told_by, HeldSinceLoss, EnteredAt, BegunSinceLoss}
-use Rattle.receiver.specs.State.{Settled, Staged, headed, frame_of, held_of}
+use Rattle.receiver.specs.State.{Settled, Staged, headed, frame_of, held_of, kept_by}
 use Rattle.receiver.specs.Call.{OpenedAs, pending_by, pending_of}
 use Rattle.receiver.proofs.Facts.{wired, InFrame, InEvents, InBytes, InWay, InHeld, in_upon, in_read, in_holding, in_next}
 use Rattle.receiver.proofs.Placing.{drop_placed}
 use Rattle.receiver.proofs.Walking.{llep_in}
 use Rattle.receiver.proofs.Rest.{standing}
 use Rattle.receiver.proofs.Listening.{Life, opening_listed, life_rests}
-use Rattle.receiver.specs.declared.Opened.TheVariants as O
-use Rattle.receiver.specs.declared.Unfinished.TheVariants as P
 
 -- ---- a loss amid ordinary bytes: nothing is read behind it
 
@@ -80,10 +76,10 @@ module _ (room : ℕ) where
   no_end h (suc k) l = l
 
   whole_ended : (p : Place) (o : Option wire.H) → Loses (whole wire p o).1 → Ended (whole wire p o)
-  whole_ended p none l = (refl, (λ u. refl))
-  whole_ended p (some h) (inl l) = absurd l
-  whole_ended p (some h) (inr (inl l)) = absurd l
-  whole_ended p (some h) (inr (inr l)) = absurd (no_end h (wire.size h) l)
+  whole_ended p None l = (refl, (λ u. refl))
+  whole_ended p (Some h) (inl l) = absurd l
+  whole_ended p (Some h) (inr (inl l)) = absurd l
+  whole_ended p (Some h) (inr (inr l)) = absurd (no_end h (wire.size h) l)
 
   step_ended : (f : Frame wire) (b : wire.B) → Loses (step wire f b).1 → Ended (step wire f b)
   step_ended lost b l = absurd l
@@ -165,8 +161,8 @@ module _ (Q : Place → Type 0) (room : ℕ) where
   by_judge : (o : Option ℕ) (p : Place) (f : Frame wire) (u : Held wire) (n : ℕ) (bs : List wire.B)
       → (LostFirst (read wire (judge wire o p f n bs) bs).1 → InBytes wire Q (drop n bs))
       → Loses (read wire (judge wire o p f n bs) bs).1 → Leaves u (read wire (judge wire o p f n bs) bs)
-  by_judge none p f u n bs q l = resumed 12 (since wire p f) u n bs q
-  by_judge (some m) p f u n bs q l = by_agree (eqb m n) p f u n bs q l
+  by_judge None p f u n bs q l = resumed 12 (since wire p f) u n bs q
+  by_judge (Some m) p f u n bs q l = by_agree (eqb m n) p f u n bs q l
 
   by_loss : (w : Way wire) (f : Frame wire) (u : Held wire) → (LostFirst (by_way wire f w).1 → InTail Q w) → Loses (by_way wire f w).1
       → Leaves u (by_way wire f w)
@@ -215,19 +211,19 @@ module _ (Q : Place → Type 0) (t : Stamp) where
 
 -- where a low-latency part ends
 abbrev Ends : ℕ → ℕ → Part → Type 0
-Ends i n q = (rest : List ℕ) → q.behind ≡ some rest → (i ≤ q.from) × (q.from + length rest ≡ i + n)
+Ends i n q = (rest : List ℕ) → q.behind ≡ Some rest → (i ≤ q.from) × (q.from + length rest ≡ i + n)
 
-walked_ends : (o : Llep) (t : Stamp) (i : ℕ) (bs : List ℕ) (on : ℕ → List ℕ → Part) → llep bs ≡ o
+walked_ends : (o : Option (Header × Bool)) (t : Stamp) (i : ℕ) (bs : List ℕ) (on : ℕ → List ℕ → Part) → llep bs ≡ o
     → ((j : ℕ) (rest : List ℕ) → Ends j (length rest) (on j rest)) → Ends i (length bs) (walked o t i bs on)
-walked_ends Broken t i bs on e ih rest b = let z : ◌≡◌ {A = ℕ} 0 1 = cc in absurd (omega arith)
-walked_ends (Whole h true) t i bs on e ih rest b =
+walked_ends None t i bs on e ih rest b = let z : ◌≡◌ {A = ℕ} 0 1 = cc in absurd (omega arith)
+walked_ends (Some (h, true)) t i bs on e ih rest b =
     let l = llep_in bs h true e in
     let d = length-drop (7 + h.size) bs in
     let r = ih (i + 7 + h.size) (drop (7 + h.size) bs) rest b in
     let x = r.0 in
     let y = r.1 in
     (omega arith, omega arith)
-walked_ends (Whole h false) t i bs on e ih rest b =
+walked_ends (Some (h, false)) t i bs on e ih rest b =
     let l = llep_in bs h false e in
     let d = length-drop (7 + h.size) bs in
     let z : drop (7 + h.size) bs ≡ rest = cc in
@@ -249,18 +245,18 @@ if_ends false t payload rest b =
 
 module _ (Q : Place → Type 0) (t : Stamp) where
   behind_in : (q : Part) (o : Option (List ℕ)) (offset : ℕ) (payload : List ℕ) → ((i : ℕ) → Q (place_at t i)) → InWay wire Q (behind q o t offset payload).way
-  behind_in q none offset payload f = tt
-  behind_in q (some bs) offset payload f =
+  behind_in q None offset payload f = tt
+  behind_in q (Some bs) offset payload f =
       way_in Q t (start_of t) offset (length payload - length bs) (placed t q.from bs) (placed_in Q t q.from bs (λ i l. f i))
 
   word_in : (o : Option ℕ) (payload : List ℕ) → ((i : ℕ) → Q (place_at t i)) → InWay wire Q (worded o t payload).way
-  word_in none payload f = tt
-  word_in (some w) payload f = behind_in (low_part_if (leb 2048 w) t payload) (low_part_if (leb 2048 w) t payload).behind (w % 2048) payload f
+  word_in None payload f = tt
+  word_in (Some w) payload f = behind_in (low_part_if (leb 2048 w) t payload) (low_part_if (leb 2048 w) t payload).behind (w % 2048) payload f
 
   behind_tail : (q : Part) (o : Option (List ℕ)) (offset : ℕ) (payload : List ℕ) → q.behind ≡ o → Ends 4 (length payload) q
       → ((i : ℕ) → offset ≤ i - 4 → Q (place_at t i)) → InTail Q (behind q o t offset payload).way
-  behind_tail q none offset payload e n f = tt
-  behind_tail q (some bs) offset payload e n f = way_tail Q t (start_of t) offset gone (placed t q.from bs) from
+  behind_tail q None offset payload e n f = tt
+  behind_tail q (Some bs) offset payload e n f = way_tail Q t (start_of t) offset gone (placed t q.from bs) from
     where
       gone : ℕ
       gone = length payload - length bs
@@ -275,8 +271,8 @@ module _ (Q : Place → Type 0) (t : Stamp) where
           (λ i m. f i (law q.from (length bs) (length payload) i offset (n bs e).0 (n bs e).1 l m)))
 
   word_tail : (o : Option ℕ) (payload : List ℕ) → ((i : ℕ) → offset_by o ≤ i - 4 → Q (place_at t i)) → InTail Q (worded o t payload).way
-  word_tail none payload f = tt
-  word_tail (some w) payload f =
+  word_tail None payload f = tt
+  word_tail (Some w) payload f =
       let q : Part = low_part_if (leb 2048 w) t payload in
       behind_tail q q.behind (w % 2048) payload refl (if_ends (leb 2048 w) t payload) f
 
@@ -456,18 +452,18 @@ module _ (Q : Place → Type 0) where
   headed_place g [] d a = a
   headed_place g (x ∷ hs) d a = a
 
-  pending_place : (k : Kept) (p : Phase) (b g : Place) (m : List ℕ) → Settled p → InFrame wire Q (frame_of b p) → InHeld wire Q wired (held_of k m)
-      → pending_by k p b ≡ P.From g → Q g
-  pending_place (Of c e a n) p b g m s f h q = let z : a ≡ g = cc in subst Q z h
-  pending_place Empty Lost b g m s f h q = let z : ◌≡◌ {A = ℕ} 0 1 = cc in absurd (omega arith)
-  pending_place Empty (Head zero w) b g m s f h q = let z : ◌≡◌ {A = ℕ} 0 1 = cc in absurd (omega arith)
-  pending_place Empty (Head (suc n) w) b g m s f h q =
-      let y : P.From b ≡ P.From g = sym (ap (λ (x : Bool). cond x P.Nothing (P.From b)) (ne_eqb (suc n) 0 (λ e. omega arith))) ∙ q in
+  pending_place : (k : Option Kept) (p : Phase) (b g : Place) (m : List ℕ) → Settled p → InFrame wire Q (frame_of b p) → InHeld wire Q wired (held_of k m)
+      → pending_by k p b ≡ Some g → Q g
+  pending_place (Some k) p b g m s f h q = let z : k.began ≡ g = cc in subst Q z h
+  pending_place None Lost b g m s f h q = let z : ◌≡◌ {A = ℕ} 0 1 = cc in absurd (omega arith)
+  pending_place None (Head zero w) b g m s f h q = let z : ◌≡◌ {A = ℕ} 0 1 = cc in absurd (omega arith)
+  pending_place None (Head (suc n) w) b g m s f h q =
+      let y : Some b ≡ Some g = sym (ap (λ (x : Bool). cond x None (Some b)) (ne_eqb (suc n) 0 (λ e. omega arith))) ∙ q in
       let z : b ≡ g = cc in
       subst Q z (headed_place b (digits n (w / 256)) (w % 256) f)
-  pending_place Empty (Judged h) b g m s f e q = absurd (omega arith)
-  pending_place Empty (Body h zero) b g m s f e q = absurd (omega arith)
-  pending_place Empty (Body h (suc n)) b g m s f e q = let z : b ≡ g = cc in subst Q z f
+  pending_place None (Judged h) b g m s f e q = absurd (omega arith)
+  pending_place None (Body h zero) b g m s f e q = absurd (omega arith)
+  pending_place None (Body h (suc n)) b g m s f e q = let z : b ≡ g = cc in subst Q z f
 
 abbrev pub opening : ℕ → ℕ → List ℕ → Setting
 opening size stream m = record { size = size; stream = stream; room = length m }
@@ -482,8 +478,8 @@ module _ (size stream : ℕ) (m : List ℕ) (before : List Input) (x : Input) wh
 
   module _ (r : Receiver) (behind : List Input) {fs : List (Finding wire)} {r' : Receiver} {m' : List ℕ} where
     -- the held series', or else that of the header or EP under way
-    pub pending_since_loss : OpenedAs size stream (length m) (O.Ready r) → Life r m (before ++ x ∷ behind) fs r' m' → Loses told_then
-        → (g : Place) → pending_of r'.walk ≡ P.From g → SinceThen g
+    pub pending_since_loss : OpenedAs size stream (length m) (Some r) → Life r m (before ++ x ∷ behind) fs r' m' → Loses told_then
+        → (g : Place) → pending_of r'.walk ≡ Some g → SinceThen g
     pending_since_loss o l i g e =
         let w : Walk = r'.walk in
         let a = life_rests size stream m r o l in
@@ -491,6 +487,6 @@ module _ (size stream : ℕ) (m : List ℕ) (before : List Input) (x : Input) wh
         (since_loss (opening size stream m) 0 (standing lost free) before x behind i) in
         pending_place SinceThen w.kept w.phase w.began g m' (subst (λ (g : Stage). Staged g w) a.1 a.0.stage) k.0 k.1 e
 
-    pub kept_since_loss : OpenedAs size stream (length m) (O.Ready r) → Life r m (before ++ x ∷ behind) fs r' m' → Loses told_then
-        → (c e : ℕ) (g : Place) (n : ℕ) → r'.walk.kept ≡ Of c e g n → SinceThen g
-    kept_since_loss o l i c e g n k = pending_since_loss o l i g (ap (λ (y : Kept). pending_by y r'.walk.phase r'.walk.began) k)
+    pub kept_since_loss : OpenedAs size stream (length m) (Some r) → Life r m (before ++ x ∷ behind) fs r' m' → Loses told_then
+        → (c e : ℕ) (g : Place) (n : ℕ) → r'.walk.kept ≡ kept_by c e g n → SinceThen g
+    kept_since_loss o l i c e g n k = pending_since_loss o l i g (ap (λ (y : Option Kept). pending_by y r'.walk.phase r'.walk.began) k)

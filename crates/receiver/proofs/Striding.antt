@@ -7,6 +7,7 @@ use native.Mathlib.Omega.{arith}
 use lib.ListN.{drop, length, take}
 use lib.Seq.{paste}
 use borrow.Author.Tests.{le-ltb}
+use Rattle.std.specs.Prelude.{None, Option}
 use Rattle.queue.specs.Ring.{copied}
 use Rattle.wire.specs.declared.Header.{Header}
 use Rattle.receiver.specs.declared.Place.{Place}
@@ -15,7 +16,6 @@ use Rattle.receiver.specs.declared.kind.Kind.{Kind}
 use Rattle.receiver.specs.declared.kind.Kind.TheVariants.{Complete, Fill, Middle}
 use Rattle.receiver.specs.declared.walk.Answer.{Answer}
 use Rattle.receiver.specs.declared.walk.Kept.{Kept}
-use Rattle.receiver.specs.declared.walk.Kept.TheVariants.{Empty, Of}
 use Rattle.receiver.specs.declared.walk.Phase.{Phase}
 use Rattle.receiver.specs.declared.walk.Phase.TheVariants.{Body, Head}
 use Rattle.receiver.specs.declared.walk.Turn.{Turn}
@@ -23,7 +23,7 @@ use Rattle.receiver.specs.declared.walk.Turn.TheVariants.{More, Stop}
 use Rattle.receiver.specs.declared.walk.Walk.{Walk}
 use Rattle.receiver.specs.Kind.{kind_of}
 use Rattle.receiver.specs.Place.{place_at}
-use Rattle.receiver.specs.State.{Roomy, Sound, pull_of}
+use Rattle.receiver.specs.State.{Roomy, Sound, pull_of, kept_by}
 use Rattle.receiver.specs.Turns.{advance_of, body_turn, finish_of, goes, grown_by, header_turn, opened_of, walk_at}
 use Rattle.receiver.specs.InWalk.{Carries, Ends, On, pasted, room_of}
 use Rattle.receiver.specs.InStride.{EpAt, Joins, Reaches, Skips, Stands, Strides, between}
@@ -48,13 +48,13 @@ module _ (cap : ℕ) (t : Stamp) (tp : List ℕ) where
   then_carries w x (Stop a) m m' m'' o c = then_ends w x a m m' m'' o c
 
   -- where an EP between two others began is looked at by nobody
-  pub began_free : (at : ℕ) (g g' : Place) (k : Kept) (m : List ℕ) → pull_of cap t (between at g k) tp m ≡ pull_of cap t (between at g' k) tp m
+  pub began_free : (at : ℕ) (g g' : Place) (k : Option Kept) (m : List ℕ) → pull_of cap t (between at g k) tp m ≡ pull_of cap t (between at g' k) tp m
   unfolding pull_of
   began_free at g g' k m = refl
 
-  module _ (m : List ℕ) (full : length m ≡ cap) (bytes : Bytes tp) (at : ℕ) (g : Place) (k : Kept) (h : Header) (s : Stands tp at h) (roomy : Roomy cap k 0) where
+  module _ (m : List ℕ) (full : length m ≡ cap) (bytes : Bytes tp) (at : ℕ) (g : Place) (k : Option Kept) (h : Header) (s : Stands tp at h) (roomy : Roomy cap k 0) where
     -- the header's turn, where it gets none of 14 to 16
-    header_on : (k' : Kept) → opened_of (at + 6) h (place_at t at) k cap ≡ goes (at + 6) (Body h h.size) (place_at t at) k'
+    header_on : (k' : Option Kept) → opened_of (at + 6) h (place_at t at) k cap ≡ goes (at + 6) (Body h h.size) (place_at t at) k'
         → On cap t (between at g k) tp m (walk_at (at + 6) (Body h h.size) (place_at t at) k') m
     unfolding Carries advance_of header_turn room_of
     header_on k' o =
@@ -65,7 +65,7 @@ module _ (cap : ℕ) (t : Stamp) (tp : List ℕ) where
         rw (e, s.read, o) at c
 
     -- header and data
-    pub ep_carries : (k' : Kept) → opened_of (at + 6) h (place_at t at) k cap ≡ goes (at + 6) (Body h h.size) (place_at t at) k'
+    pub ep_carries : (k' : Option Kept) → opened_of (at + 6) h (place_at t at) k cap ≡ goes (at + 6) (Body h h.size) (place_at t at) k'
         → Carries cap t (between at g k) tp m (body_turn tp (at + 6) h h.size (place_at t at) k') (pasted k' m (drop (at + 6) tp) (min h.size (length tp - (at + 6))))
     unfolding advance_of room_of
     ep_carries k' o =
@@ -74,8 +74,8 @@ module _ (cap : ℕ) (t : Stamp) (tp : List ℕ) where
         then_carries (between at g k) (walk_at (at + 6) (Body h h.size) (place_at t at) k') _ m m _ a b
 
 -- an EP read whole, of a kind behind which reading goes on
-whole_on : (cap : ℕ) (t : Stamp) (tp : List ℕ) (w : Walk) (from b : ℕ) (h : Header) (g : Place) (k : Kept) (m m' : List ℕ) {kind : Kind} → kind_of h ≡ kind
-    → ((at : ℕ) (g : Place) (k : Kept) → finish_of kind at g k ≡ goes at (Head 0 0) g k) → h.size ≤ length tp - from → b ≡ from + h.size
+whole_on : (cap : ℕ) (t : Stamp) (tp : List ℕ) (w : Walk) (from b : ℕ) (h : Header) (g : Place) (k : Option Kept) (m m' : List ℕ) {kind : Kind} → kind_of h ≡ kind
+    → ((at : ℕ) (g : Place) (k : Option Kept) → finish_of kind at g k ≡ goes at (Head 0 0) g k) → h.size ≤ length tp - from → b ≡ from + h.size
     → Carries cap t w tp m (body_turn tp from h h.size g k) m' → On cap t w tp m (between b g (grown_by h.size k)) m'
 unfolding Carries
 whole_on cap t tp w from b h g k m m' kind-is goes_on l q c =
@@ -102,12 +102,12 @@ module _ (tp : List ℕ) where
       let six = s.stands.six in
       record { on = omega arith; within = omega arith; same = λ cap t g m full. on cap t g m full }
     where
-      on : (cap : ℕ) (t : Stamp) (g : Place) (m : List ℕ) → length m ≡ cap → pull_of cap t (between b g Empty) tp m ≡ pull_of cap t (between at g Empty) tp m
+      on : (cap : ℕ) (t : Stamp) (g : Place) (m : List ℕ) → length m ≡ cap → pull_of cap t (between b g None) tp m ≡ pull_of cap t (between at g None) tp m
       on cap t g m full =
           let six = s.stands.six in
-          let c = ep_carries cap t tp m full bytes at g Empty h s.stands (omega arith) Empty (fill_opened (at + 6) h (place_at t at) cap s.kind) in
-          let o : On cap t (between at g Empty) tp m (between b (place_at t at) Empty) m = whole_on cap t tp (between at g Empty) (at + 6) b h (place_at t at) Empty m m s.kind (λ at g k. refl) (omega arith) (omega arith) c in
-          began_free cap t tp b g (place_at t at) Empty m ∙ o.same
+          let c = ep_carries cap t tp m full bytes at g None h s.stands (omega arith) None (fill_opened (at + 6) h (place_at t at) cap s.kind) in
+          let o : On cap t (between at g None) tp m (between b (place_at t at) None) m = whole_on cap t tp (between at g None) (at + 6) b h (place_at t at) None m m s.kind (λ at g k. refl) (omega arith) (omega arith) c in
+          began_free cap t tp b g (place_at t at) None m ∙ o.same
 
   -- ---- middles
 
@@ -121,7 +121,7 @@ module _ (tp : List ℕ) where
 
     -- a middle's data into the room
     pub middle_put : (m m' : List ℕ) (from size n : ℕ) → from + size ≤ length tp → n + size ≤ length m → m' ≡ copied m n (take (from + size - from) (drop from tp)) → m' ≡ paste m n (drop from tp) size
-    middle_put m m' from size n l fits e = put_is tp from size 0 0 nowhere n (Of 0 0 nowhere n) m m' refl l fits e
+    middle_put m m' from size n l fits e = put_is tp from size 0 0 nowhere n (kept_by 0 0 nowhere n) m m' refl l fits e
       where
         nowhere : Place
         nowhere = place_at (record { number = 0; byte = 0 }) 0
@@ -131,21 +131,21 @@ module _ (tp : List ℕ) where
     middle_joins bytes m m' full at n b l h s intact same fits most long q z put =
         record { on = omega arith; within = omega arith; roomy = omega arith; same = λ t g e p u. on t g e p u }
       where
-        on : (t : Stamp) (g : Place) (e : ℕ) (p : Place) → e ≤ 4294967295 → pull_of cap t (between b g (Of c e p l)) tp m' ≡ pull_of cap t (between at g (Of c e p n)) tp m
+        on : (t : Stamp) (g : Place) (e : ℕ) (p : Place) → e ≤ 4294967295 → pull_of cap t (between b g (kept_by c e p l)) tp m' ≡ pull_of cap t (between at g (kept_by c e p n)) tp m
         on t g e p u =
-            let f = ep_carries cap t tp m full bytes at g (Of c e p n) h s.stands (omega arith) (Of c e p n) (middle_opened (at + 6) h (place_at t at) cap c e p n s.kind same intact u most) in
+            let f = ep_carries cap t tp m full bytes at g (kept_by c e p n) h s.stands (omega arith) (kept_by c e p n) (middle_opened (at + 6) h (place_at t at) cap c e p n s.kind same intact u most) in
             let k : min h.size (length tp - (at + 6)) ≡ h.size = omega arith in
-            let o : On cap t (between at g (Of c e p n)) tp m (between b (place_at t at) (Of c e p (n + h.size))) (paste m n (drop (at + 6) tp) h.size) =
-            whole_on cap t tp (between at g (Of c e p n)) (at + 6) b h (place_at t at) (Of c e p n) m _ s.kind (λ at g k. refl) (omega arith) (omega arith) (rw k at f) in
-            began_free cap t tp b g (place_at t at) (Of c e p l) m' ∙ rw (z, put) o.same
+            let o : On cap t (between at g (kept_by c e p n)) tp m (between b (place_at t at) (kept_by c e p (n + h.size))) (paste m n (drop (at + 6) tp) h.size) =
+            whole_on cap t tp (between at g (kept_by c e p n)) (at + 6) b h (place_at t at) (kept_by c e p n) m _ s.kind (λ at g k. refl) (omega arith) (omega arith) (rw k at f) in
+            began_free cap t tp b g (place_at t at) (kept_by c e p l) m' ∙ rw (z, put) o.same
 
 -- ---- a complete EP
 
 pub complete_strides : (cap : ℕ) (t : Stamp) (tp m : List ℕ) → length m ≡ cap → Bytes tp → (at : ℕ) (g : Place) (h : Header) → EpAt Complete tp at h → h.size ≤ cap
-    → Strides cap t (between at g Empty) tp m (body_turn tp (at + 6) h h.size (place_at t at) (Of h.content h.flips (place_at t at) 0))
-    (pasted (Of h.content h.flips (place_at t at) 0) m (drop (at + 6) tp) (min h.size (length tp - (at + 6))))
+    → Strides cap t (between at g None) tp m (body_turn tp (at + 6) h h.size (place_at t at) (kept_by h.content h.flips (place_at t at) 0))
+    (pasted (kept_by h.content h.flips (place_at t at) 0) m (drop (at + 6) tp) (min h.size (length tp - (at + 6))))
 complete_strides cap t tp m full bytes at g h s l =
-    carries_strides cap t tp _ _ m _ (ep_carries cap t tp m full bytes at g Empty h s.stands (omega arith) (Of h.content h.flips (place_at t at) 0) (complete_opened (at + 6) h (place_at t at) cap s.kind l))
+    carries_strides cap t tp _ _ m _ (ep_carries cap t tp m full bytes at g None h s.stands (omega arith) (kept_by h.content h.flips (place_at t at) 0) (complete_opened (at + 6) h (place_at t at) cap s.kind l))
 
 -- ---- strides, one behind the other
 
@@ -165,20 +165,20 @@ module _ (cap : ℕ) (t : Stamp) (tp : List ℕ) where
   reach_carries w x (More y) m m' m'' o c = record { same = c.same ∙ o.same; sound = c.sound; less = omega (arith, o.less, c.less) }
   reach_carries w x (Stop a) m m' m'' o c = record { same = c.same ∙ o.same; sound = c.sound; gained = c.gained }
 
-  skips_reach : (a b : ℕ) (g : Place) (m : List ℕ) → length m ≡ cap → Skips tp a b → Reaches cap t (between a g Empty) tp m (between b g Empty) m
+  skips_reach : (a b : ℕ) (g : Place) (m : List ℕ) → length m ≡ cap → Skips tp a b → Reaches cap t (between a g None) tp m (between b g None) m
   skips_reach a b g m full s =
       record { same = s.same cap t g m full; sound = record { at = s.within; phase = (omega arith, omega arith, omega arith) }; less = omega (arith, s.on, s.within) }
 
-  pub free_on : (a b : ℕ) (g : Place) (m : List ℕ) → length m ≡ cap → Skips tp a b → Strides cap t (between a g Empty) tp m (More (between b g Empty)) m
+  pub free_on : (a b : ℕ) (g : Place) (m : List ℕ) → length m ≡ cap → Skips tp a b → Strides cap t (between a g None) tp m (More (between b g None)) m
   unfolding Strides
   free_on a b g m full s = skips_reach a b g m full s
 
   pub free_complete : (a b : ℕ) (g : Place) (m m' : List ℕ) → length m ≡ cap → Bytes tp → Skips tp a b → (h : Header) → EpAt Complete tp b h → h.size ≤ cap → (r : Turn)
-      → r ≡ body_turn tp (b + 6) h h.size (place_at t b) (Of h.content h.flips (place_at t b) 0)
-      → m' ≡ pasted (Of h.content h.flips (place_at t b) 0) m (drop (b + 6) tp) (min h.size (length tp - (b + 6)))
-      → Strides cap t (between a g Empty) tp m r m'
+      → r ≡ body_turn tp (b + 6) h h.size (place_at t b) (kept_by h.content h.flips (place_at t b) 0)
+      → m' ≡ pasted (kept_by h.content h.flips (place_at t b) 0) m (drop (b + 6) tp) (min h.size (length tp - (b + 6)))
+      → Strides cap t (between a g None) tp m r m'
   free_complete a b g m m' full bytes s h e l r q z =
-      rw (q, z) (reach_then (between a g Empty) (between b g Empty) _ m m _ (skips_reach a b g m full s) (complete_strides cap t tp m full bytes b g h e l))
+      rw (q, z) (reach_then (between a g None) (between b g None) _ m m _ (skips_reach a b g m full s) (complete_strides cap t tp m full bytes b g h e l))
 
   module _ (w : Walk) (n x : ℕ) (s : Sound cap (length tp) w) (p : w.phase ≡ Head n x) (z : n ≡ 0) where
     phase_is : w.phase ≡ Head 0 0
@@ -187,23 +187,23 @@ module _ (cap : ℕ) (t : Stamp) (tp : List ℕ) where
         let y : x ≡ 0 = omega (arith, f.1) in
         p ∙ ap (λ (n : ℕ). Head n x) z ∙ ap (Head 0) y
 
-    pub kept_in_lem : (c e : ℕ) (b : Place) (k : ℕ) → w.kept ≡ Of c e b k → k ≤ cap
+    pub kept_in_lem : (c e : ℕ) (b : Place) (k : ℕ) → w.kept ≡ kept_by c e b k → k ≤ cap
     kept_in_lem c e b k q = let f = rw (p, q) at s.phase in omega (arith, f.2)
 
-    pub walk_is : (k : Kept) → w.kept ≡ k → between w.at w.began k ≡ w
+    pub walk_is : (k : Option Kept) → w.kept ≡ k → between w.at w.began k ≡ w
     walk_is k e = ap (λ (p : Phase). walk_at w.at p w.began k) (sym phase_is) ∙ ap (walk_at w.at w.phase w.began) (sym e)
 
-    pub on_free : (r : Turn) (m m' : List ℕ) → w.kept ≡ Empty → Strides cap t (between w.at w.began Empty) tp m r m' → Strides cap t w tp m r m'
-    on_free r m m' e c = subst (λ (v : Walk). Strides cap t v tp m r m') (walk_is Empty e) c
+    pub on_free : (r : Turn) (m m' : List ℕ) → w.kept ≡ None → Strides cap t (between w.at w.began None) tp m r m' → Strides cap t w tp m r m'
+    on_free r m m' e c = subst (λ (v : Walk). Strides cap t v tp m r m') (walk_is None e) c
 
-    pub on_joined : (c e : ℕ) (b : Place) (k : ℕ) (m m' : List ℕ) (at l : ℕ) → w.kept ≡ Of c e b k → e ≤ 4294967295 → Joins cap tp c w.at k m at l m'
-        → Strides cap t w tp m (More (walk_at at (Head n x) w.began (Of c e b l))) m'
+    pub on_joined : (c e : ℕ) (b : Place) (k : ℕ) (m m' : List ℕ) (at l : ℕ) → w.kept ≡ kept_by c e b k → e ≤ 4294967295 → Joins cap tp c w.at k m at l m'
+        → Strides cap t w tp m (More (walk_at at (Head n x) w.began (kept_by c e b l))) m'
     unfolding Strides
     on_joined c e b k m m' at l q u j =
-        let o : Reaches cap t (between w.at w.began (Of c e b k)) tp m (between at w.began (Of c e b l)) m' =
+        let o : Reaches cap t (between w.at w.began (kept_by c e b k)) tp m (between at w.began (kept_by c e b l)) m' =
         record { same = j.same t w.began e b u; sound = record { at = j.within; phase = (omega arith, omega arith, omega (arith, j.roomy)) }; less = omega (arith, j.on, j.within) } in
-        let v : between at w.began (Of c e b l) ≡ walk_at at (Head n x) w.began (Of c e b l) = ap (λ (p : Phase). walk_at at p w.began (Of c e b l)) (sym phase_is ∙ p) in
-        subst (λ (y : Walk). Reaches cap t w tp m y m') v (subst (λ (y : Walk). Reaches cap t y tp m (between at w.began (Of c e b l)) m') (walk_is (Of c e b k) q) o)
+        let v : between at w.began (kept_by c e b l) ≡ walk_at at (Head n x) w.began (kept_by c e b l) = ap (λ (p : Phase). walk_at at p w.began (kept_by c e b l)) (sym phase_is ∙ p) in
+        subst (λ (y : Walk). Reaches cap t w tp m y m') v (subst (λ (y : Walk). Reaches cap t y tp m (between at w.began (kept_by c e b l)) m') (walk_is (kept_by c e b k) q) o)
 
 -- ---- the loop over strides and turns: from w₀ with the room's bytes m₀ it has come to w and m
 

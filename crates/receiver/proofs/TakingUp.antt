@@ -1,15 +1,16 @@
 -- Where a call takes a TP up: which clause of its definition a test of the TP's header, or the stage, chooses. Assumes nothing.
 use mathlib.Core.Path.{ap, refl, subst, sym, ◌∙◌, ◌≡◌}
 use mathlib.Core.Bool.{Bool, cond, false, true}
-use mathlib.Core.Option.{Option, none, some}
 use mathlib.Core.List.{List}
 use Prim.Native.Nat.{ℕ, ◌%◌, ◌/◌, ◌<◌, ◌≤◌}
 use native.Mathlib.Omega.{arith}
 use lib.Dec.{eqb}
 use lib.ListN.{drop, get_or, length, take}
 use borrow.Author.Tests.{eq-eqb, ne_eqb}
+use Rattle.std.specs.Prelude.{None, Option, Some}
 use Rattle.digits.specs.Digits.{number}
-use Rattle.wire.specs.Reading.{stream_of, tp_number_in, tp_word_of, version_of}
+use Rattle.wire.specs.Reading.{stream_of, tp_number_in, tp_word_from, tp_word_of, version_of}
+use Rattle.wire.specs.declared.TpWord.{TpWord}
 use Rattle.receiver.specs.declared.Receiver.{Receiver}
 use Rattle.receiver.specs.declared.Stamp.{Stamp}
 use Rattle.receiver.specs.declared.stages.Stamps.{Stamps}
@@ -21,7 +22,6 @@ use Rattle.receiver.specs.declared.entry.Begun.{Begun}
 use Rattle.receiver.specs.declared.entry.Top.{Top}
 use Rattle.receiver.specs.declared.entry.Top.TheVariants.{Dropped, Elsewhere, Says}
 use Rattle.receiver.specs.declared.stages.Course.{Course}
-use Rattle.receiver.specs.declared.walk.Kept.TheVariants.{Empty}
 use Rattle.receiver.specs.declared.walk.Phase.TheVariants.{Lost}
 use Rattle.receiver.specs.Call.{Gave, counted_of, word_call, payload_call, first_call, gone, stage_call, unchanged}
 use Rattle.receiver.specs.State.{Able, Staged}
@@ -29,7 +29,6 @@ use Rattle.receiver.specs.Pieces.{same_of, says_of, step_of, top_of}
 use Rattle.receiver.specs.InStages.{Begins, Leads, Lent, PartAt, part_call}
 use Rattle.receiver.proofs.Calling.{gone_gives, same_gives}
 use Rattle.receiver.proofs.Parting.{leads_by}
-use Rattle.wire.specs.declared.TpWord.TheVariants as W
 use Rattle.receiver.specs.declared.Find.TheVariants as F
 use Rattle.receiver.specs.declared.entry.Begun.TheVariants as B
 use Rattle.receiver.specs.declared.stages.Course.TheVariants as C
@@ -60,27 +59,27 @@ module _ (stream : ℕ) (tp : List ℕ) where
   unfolding top_of
   top_word f v = rw (eq-eqb (get_or tp 0 0 / 16) stream f, eq-eqb (get_or tp 0 0 % 4) 0 v)
 
-  pub top_nine : get_or tp 0 0 / 16 ≡ stream → get_or tp 0 0 % 4 ≡ 0 → tp_word_of word ≡ W.Beyond → Dropped 9 ≡ top_of stream tp
+  pub top_nine : get_or tp 0 0 / 16 ≡ stream → get_or tp 0 0 % 4 ≡ 0 → tp_word_of word ≡ None → Dropped 9 ≡ top_of stream tp
   top_nine f v e = by word e ∙ top_word f v
     where
-      by : (o : Option ℕ) → tp_word_of o ≡ W.Beyond → Dropped 9 ≡ says_of o
-      by none e = refl
-      by (some w) e = cc
+      by : (o : Option ℕ) → tp_word_of o ≡ None → Dropped 9 ≡ says_of o
+      by None e = refl
+      by (Some w) e = cc
 
-  pub top_says : (low : Bool) (n : ℕ) → get_or tp 0 0 / 16 ≡ stream → get_or tp 0 0 % 4 ≡ 0 → tp_word_of word ≡ W.Says low n → Says low n ≡ top_of stream tp
+  pub top_says : (low : Bool) (n : ℕ) → get_or tp 0 0 / 16 ≡ stream → get_or tp 0 0 % 4 ≡ 0 → tp_word_of word ≡ Some (record { low = low; offset = n }) → Says low n ≡ top_of stream tp
   top_says low n f v e = by word e ∙ top_word f v
     where
-      by : (o : Option ℕ) → tp_word_of o ≡ W.Says low n → Says low n ≡ says_of o
-      by none e = cc
-      by (some w) e = cc
+      by : (o : Option ℕ) → tp_word_of o ≡ Some (record { low = low; offset = n }) → Says low n ≡ says_of o
+      by None e = let z : ◌≡◌ {A = ℕ} 0 1 = cc in absurd (omega arith)
+      by (Some w) e = let q : tp_word_from w ≡ record { low = low; offset = n } = cc in ap (λ (x : TpWord). Says x.low x.offset) (sym q)
 
   pub says_small : (low : Bool) (n : ℕ) → top_of stream tp ≡ Says low n → n < 2048
   unfolding top_of
   says_small low n e = by (eqb (stream_of (get_or tp 0 0)) stream) (eqb (version_of (get_or tp 0 0)) 0) word e
     where
       by : (a b : Bool) (o : Option ℕ) → cond a (cond b (says_of o) (Dropped 7)) Elsewhere ≡ Says low n → n < 2048
-      by true true none e = let z : ◌≡◌ {A = ℕ} 0 1 = cc in omega arith
-      by true true (some w) e = let q : w % 2048 ≡ n = cc in omega arith
+      by true true None e = let z : ◌≡◌ {A = ℕ} 0 1 = cc in omega arith
+      by true true (Some w) e = let q : w % 2048 ≡ n = cc in omega arith
       by true false o e = let z : ◌≡◌ {A = ℕ} 0 1 = cc in omega arith
       by false b o e = let z : ◌≡◌ {A = ℕ} 0 1 = cc in omega arith
 
@@ -89,8 +88,8 @@ module _ (stream : ℕ) (tp : List ℕ) where
   drops_small n e = by (eqb (stream_of (get_or tp 0 0)) stream) (eqb (version_of (get_or tp 0 0)) 0) word e
     where
       by : (a b : Bool) (o : Option ℕ) → cond a (cond b (says_of o) (Dropped 7)) Elsewhere ≡ Dropped n → n ≤ 9
-      by true true none e = let q : 9 ≡ n = cc in omega arith
-      by true true (some w) e = let z : ◌≡◌ {A = ℕ} 0 1 = cc in omega arith
+      by true true None e = let q : 9 ≡ n = cc in omega arith
+      by true true (Some w) e = let z : ◌≡◌ {A = ℕ} 0 1 = cc in omega arith
       by true false o e = let q : 7 ≡ n = cc in omega arith
       by false b o e = let z : ◌≡◌ {A = ℕ} 0 1 = cc in omega arith
 
@@ -111,21 +110,21 @@ fresh_top r n tp m = by (eqb (stream_of (get_or tp 0 0)) r.stream) (eqb (version
     by : (a b : Bool) (o : Option ℕ)
         → fresh_by (cond a (cond b (says_of o) (Dropped 7)) Elsewhere) r n tp m
         ≡ cond a (cond b (word_call o (counted_of r) n.now tp m) (gone (counted_of r) n.now 7 m)) (unchanged r n.before (F.Notice 8) 8 m)
-    by true true none = refl
-    by true true (some w) = refl
+    by true true None = refl
+    by true true (Some w) = refl
     by true false o = refl
     by false b o = refl
 
 abbrev pub first_by : Top → Receiver → Stamps → Begun
 first_by Elsewhere r n = B.Gives (same_of r (F.Notice 8) (start_of n.before))
-first_by (Dropped k) r n = B.Gives (step_of (counted_of r) Fresh 0 Lost Empty (F.Notice k) (start_of n.now))
+first_by (Dropped k) r n = B.Gives (step_of (counted_of r) Fresh 0 Lost None (F.Notice k) (start_of n.now))
 first_by (Says low o) r n = B.Part low o 4
 
 module _ (r : Receiver) (n : Stamps) (tp : List ℕ) where
   abbrev c : Receiver
   c = counted_of r
 
-  gone_begins : (k : ℕ) → 16 ≤ r.size → length tp ≡ r.size → Begins (gone c n.now k) c n.now tp (B.Gives (step_of c Fresh 0 Lost Empty (F.Notice k) (start_of n.now)))
+  gone_begins : (k : ℕ) → 16 ≤ r.size → length tp ≡ r.size → Begins (gone c n.now k) c n.now tp (B.Gives (step_of c Fresh 0 Lost None (F.Notice k) (start_of n.now)))
   unfolding Begins
   gone_begins k size whole = λ m f. gone_gives c n.now tp m size whole f k
 

@@ -2,34 +2,26 @@
 -- Assumes nothing.
 use mathlib.Core.Path.{refl, ◌≡◌}
 use mathlib.Core.Bool.{Bool, cond, false, true}
-use mathlib.Core.Option.{Option, none, some}
 use mathlib.Core.List.{List}
 use Prim.Native.Nat.{ℕ, ◌+◌, ◌-◌, ◌≤◌}
 use native.Mathlib.Omega.{arith}
 use lib.Dec.{eqb, leb, ltb}
 use lib.ListN.{drop, length, take}
 use borrow.Author.Tests.{eqb-true}
+use Rattle.std.specs.Prelude.{Some, Err, Ok, Result, None, Option}
 use Rattle.digits.specs.Digits.{number}
 use Rattle.wire.specs.Reading.{header_in}
 use Rattle.wire.specs.declared.Header.{Header}
 use Rattle.receiver.specs.declared.Receiver.{Receiver}
 use Rattle.receiver.specs.declared.Stage.{Stage}
 use Rattle.receiver.specs.declared.Stage.TheVariants.{Due, Fresh, Low, Plain}
-use Rattle.receiver.specs.declared.Told.TheVariants as T
 use Rattle.receiver.specs.declared.entry.Top.{Top}
 use Rattle.receiver.specs.declared.entry.Top.TheVariants.{Dropped, Elsewhere, Says}
 use Rattle.receiver.specs.declared.kind.Kind.{Kind}
 use Rattle.receiver.specs.declared.kind.Kind.TheVariants.{Complete, Fill, First, Last, Middle, Reserved}
-use Rattle.receiver.specs.declared.low.Llep.{Llep}
-use Rattle.receiver.specs.declared.low.Llep.TheVariants as L
-use Rattle.receiver.specs.declared.outset.Offset.{Offset}
-use Rattle.receiver.specs.declared.outset.Offset.TheVariants.{Behind, Outside}
-use Rattle.receiver.specs.declared.outset.Start.{Start}
-use Rattle.receiver.specs.declared.outset.Start.TheVariants as S
 use Rattle.receiver.specs.declared.walk.Gain.{Gain}
 use Rattle.receiver.specs.declared.walk.Gain.TheVariants.{Nothing, Notice, Packet}
 use Rattle.receiver.specs.declared.walk.Kept.{Kept}
-use Rattle.receiver.specs.declared.walk.Kept.TheVariants.{Empty, Of}
 use Rattle.receiver.specs.declared.walk.Phase.{Phase}
 use Rattle.receiver.specs.declared.walk.Phase.TheVariants.{Body, Head, Judged, Lost}
 use Rattle.receiver.specs.declared.walk.Turn.{Turn}
@@ -61,15 +53,15 @@ module _ (len : ℕ) where
   unfolding fits_of
   fits_late at h b c n cap = by (leb h.size (cap - n))
     where
-      by : (x : Bool) → Late len (cond x (goes at (Body h h.size) b (kept_as c n)) (stops at (Body h h.size) b Empty (Notice 15)))
+      by : (x : Bool) → Late len (cond x (goes at (Body h h.size) b (kept_as c n)) (stops at (Body h h.size) b None (Notice 15)))
       by true = omega arith
       by false = omega arith
 
-  further_late : (at : ℕ) (h : Header) (b : Place) (k : Kept) (cap : ℕ) → Late len (further_of at h b k cap)
-  further_late at h b Empty cap = omega arith
-  further_late at h b (Of c sum g n) cap = fits_late at h b (join_of (tag_of c sum g) (ep_at b h)) n cap
+  further_late : (at : ℕ) (h : Header) (b : Place) (k : Option Kept) (cap : ℕ) → Late len (further_of at h b k cap)
+  further_late at h b None cap = omega arith
+  further_late at h b (Some k) cap = fits_late at h b (join_of (tag_of k.content k.repaired k.began) (ep_at b h)) k.len cap
 
-  admit_late : (d : Kind) (at : ℕ) (h : Header) (b : Place) (k : Kept) (cap : ℕ) → Late len (admit_of d at h b k cap)
+  admit_late : (d : Kind) (at : ℕ) (h : Header) (b : Place) (k : Option Kept) (cap : ℕ) → Late len (admit_of d at h b k cap)
   admit_late Fill at h b k cap = omega arith
   admit_late Reserved at h b k cap = omega arith
   admit_late Complete at h b k cap = fits_late at h b (begin_of (ep_at b h)) 0 cap
@@ -77,20 +69,20 @@ module _ (len : ℕ) where
   admit_late Middle at h b k cap = further_late at h b k cap
   admit_late Last at h b k cap = further_late at h b k cap
 
-  whole_late : (at : ℕ) (o : Option Header) (b : Place) (k : Kept) (cap : ℕ) → Late len (whole_of at o b k cap)
+  whole_late : (at : ℕ) (o : Option Header) (b : Place) (k : Option Kept) (cap : ℕ) → Late len (whole_of at o b k cap)
   unfolding opened_of
-  whole_late at none b k cap = omega arith
-  whole_late at (some h) b k cap = by (meets_of (kind_of h) k h.content)
+  whole_late at None b k cap = omega arith
+  whole_late at (Some h) b k cap = by (meets_of (kind_of h) k h.content)
     where
-      by : (x : Bool) → Late len (cond x (admit_of (kind_of h) at h b k cap) (stops at (Judged h) b Empty (Notice 14)))
+      by : (x : Bool) → Late len (cond x (admit_of (kind_of h) at h b k cap) (stops at (Judged h) b None (Notice 14)))
       by true = admit_late (kind_of h) at h b k cap
       by false = omega arith
 
-  handed_late : (at : ℕ) (b : Place) (k : Kept) → Late len (handed_of at b k)
-  handed_late at b Empty = omega arith
-  handed_late at b (Of c sum g n) = omega arith
+  handed_late : (at : ℕ) (b : Place) (k : Option Kept) → Late len (handed_of at b k)
+  handed_late at b None = omega arith
+  handed_late at b (Some k) = omega arith
 
-  finish_late : (d : Kind) (at : ℕ) (b : Place) (k : Kept) → Late len (finish_of d at b k)
+  finish_late : (d : Kind) (at : ℕ) (b : Place) (k : Option Kept) → Late len (finish_of d at b k)
   finish_late Fill at b k = omega arith
   finish_late Reserved at b k = omega arith
   finish_late Complete at b k = handed_late at b k
@@ -98,7 +90,7 @@ module _ (len : ℕ) where
   finish_late Middle at b k = omega arith
   finish_late Last at b k = handed_late at b k
 
-module _ (t : Stamp) (tp : List ℕ) (at : ℕ) (g : Place) (k : Kept) (cap : ℕ) (l : at ≤ length tp) where
+module _ (t : Stamp) (tp : List ℕ) (at : ℕ) (g : Place) (k : Option Kept) (cap : ℕ) (l : at ≤ length tp) where
   late_by : (p : Phase) → Late (length tp) (advance_by p t at g k cap tp)
   unfolding header_turn body_turn
   late_by Lost = refl
@@ -139,28 +131,28 @@ module _ (r : Receiver) (len : ℕ) where
   top_tiles (Says true o) = on_to refl (not_low o) refl
   top_tiles (Says false o) = on_to refl (not_due o) refl
 
-  llep_tiles : (o : ℕ) (l : Llep) → Tiles (stands_by (Low o) r.walk) len r (llep_turn l r o len)
-  llep_tiles o L.Broken = on_to refl not_plain refl
-  llep_tiles o (L.Whole h true) = on_to refl (not_low o) refl
-  llep_tiles o (L.Whole h false) = on_to refl (not_due o) refl
+  llep_tiles : (o : ℕ) (l : Option (Header × Bool)) → Tiles (stands_by (Low o) r.walk) len r (llep_turn l r o len)
+  llep_tiles o None = on_to refl not_plain refl
+  llep_tiles o (Some (h, true)) = on_to refl (not_low o) refl
+  llep_tiles o (Some (h, false)) = on_to refl (not_due o) refl
 
-  out_tiles : (s : Start) (n : ℕ) → Tiles r.walk.at len r (out_turn s r n len)
-  out_tiles (S.Reads x) n = on_to refl not_plain refl
-  out_tiles (S.Loses i) n = on_to refl not_plain refl
+  out_tiles : (s : Result Walk ℕ) (n : ℕ) → Tiles r.walk.at len r (out_turn s r n len)
+  out_tiles (Ok x) n = on_to refl not_plain refl
+  out_tiles (Err i) n = on_to refl not_plain refl
 
   plain_tiles : (t : Turn) → Late len t → Tiles r.walk.at len r (ordinary_turn t r)
   plain_tiles (More x) l = on_to refl not_plain refl
   plain_tiles (Stop a) l = by a.gain l
     where
       by : (g : Gain) → NoneAt len g a.walk.at
-          → Tiles r.walk.at len r (record { receiver = (tell_of g r (stamp_of r) a.walk).receiver; piece = read_of r.walk a.walk; told = T.Gives (tell_of g r (stamp_of r) a.walk).find; about = (tell_of g r (stamp_of r) a.walk).about })
+          → Tiles r.walk.at len r (record { receiver = (tell_of g r (stamp_of r) a.walk).receiver; piece = read_of r.walk a.walk; told = Some (tell_of g r (stamp_of r) a.walk).find; about = (tell_of g r (stamp_of r) a.walk).about })
       by Nothing l = ends refl refl l
       by (Notice n) l = on_to refl not_plain refl
       by (Packet c sum b n) l = on_to refl not_plain refl
 
-due_tiles : (r : Receiver) (tp : List ℕ) (p : Offset) → Tiles r.walk.at (length tp) r (due_turn p r tp)
-due_tiles r tp (Outside n) = on_to refl not_plain refl
-due_tiles r tp (Behind n) = out_tiles r (length tp) (set_out_of r.walk n tp) n
+due_tiles : (r : Receiver) (tp : List ℕ) (p : Result ℕ ℕ) → Tiles r.walk.at (length tp) r (due_turn p r tp)
+due_tiles r tp (Err n) = on_to refl not_plain refl
+due_tiles r tp (Ok n) = out_tiles r (length tp) (set_out_of r.walk n tp) n
 
 stage_tiles : (r : Receiver) (tp : List ℕ) (g : Stage) → r.walk.at ≤ length tp → Tiles (stands_by g r.walk) (length tp) r (stage_turn g r tp)
 stage_tiles r tp Fresh l = top_tiles r (length tp) (top_of r.stream tp)

@@ -2,13 +2,13 @@
 -- Assumes nothing.
 use mathlib.Core.Path.{ap, refl, subst, sym, ◌∙◌, ◌≡◌}
 use mathlib.Core.Bool.{Bool, cond, false, true}
-use mathlib.Core.Option.{none, some}
 use mathlib.Core.List.{List, [], append_assoc, append-nil, ◌++◌, ◌∷◌}
 use Prim.Native.Nat.{suc, ℕ, ◌+◌, ◌≤◌}
 use native.Mathlib.Omega.{arith}
 use lib.Dec.{eqb, leb}
 use lib.ListN.{length, length-append}
 use borrow.Author.Tests.{eqb-true}
+use Rattle.std.specs.Prelude.{None, Some}
 use Rattle.receiver.specs.declared.Place.{Place}
 use Rattle.receiver.specs.declared.kind.Kind.{Kind}
 use Rattle.receiver.specs.declared.kind.Kind.TheVariants.{Complete, Fill, First, Last, Middle, Reserved}
@@ -82,19 +82,19 @@ module _ (room : ℕ) where
   opens_by Middle free h es i = i
   opens_by Middle (held t d) h es i = goes (eqb t.content h.header.content) refl
     where
-      goes : (b : Bool) → eqb t.content h.header.content ≡ b → Meets (cond {A = Took wire} b (held t d, none) (free, some (notice 14 h.at))).0 h es
+      goes : (b : Bool) → eqb t.content h.header.content ≡ b → Meets (cond {A = Took wire} b (held t d, None) (free, Some (notice 14 h.at))).0 h es
       goes true e = (eqb-true t.content h.header.content e, i)
       goes false e = omega arith
   opens_by Last free h es i = i
   opens_by Last (held t d) h es i = goes (eqb t.content h.header.content) refl
     where
-      goes : (b : Bool) → eqb t.content h.header.content ≡ b → Meets (cond {A = Took wire} b (held t d, none) (free, some (notice 14 h.at))).0 h es
+      goes : (b : Bool) → eqb t.content h.header.content ≡ b → Meets (cond {A = Took wire} b (held t d, None) (free, Some (notice 14 h.at))).0 h es
       goes true e = (eqb-true t.content h.header.content e, i)
       goes false e = omega arith
 
   -- into an EP, whose data are kept behind d, or passed over
   fits_by : (b : Bool) (h : L.Ep) (t : Tag) (d : List ℕ) (es : List (Event wire)) → h.header.content ≡ t.content → Into t h.at es (kind_of h.header) d
-      → Ins h h.header.size (cond {A = Took wire} b (held t d, none) (free, some (notice 15 h.at))).0 ((es ++ opened h ∷ []) ++ entered h ∷ [])
+      → Ins h h.header.size (cond {A = Took wire} b (held t d, None) (free, Some (notice 15 h.at))).0 ((es ++ opened h ∷ []) ++ entered h ∷ [])
   fits_by true h t d es e i = record {
     es₀ = es;
     ds = [];

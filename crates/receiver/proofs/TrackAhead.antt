@@ -9,12 +9,11 @@ use lib.Dec.{eqb}
 use lib.ListN.{drop, length, length-drop, take}
 use lib.Seq.{take_all}
 use borrow.Author.Tests.{eqb-false, eqb-true, ne_eqb}
+use Rattle.std.specs.Prelude.{Option, Some}
 use Rattle.digits.specs.Digits.{number}
 use Rattle.queue.specs.Ring.{copied}
-use Rattle.wire.specs.Reading.{header_in, read_of}
+use Rattle.wire.specs.Reading.{header_in}
 use Rattle.wire.specs.declared.Header.{Header}
-use Rattle.wire.specs.declared.Read.{Read}
-use Rattle.wire.specs.declared.Read.TheVariants.{Whole}
 use Rattle.receiver.specs.declared.Place.{Place}
 use Rattle.receiver.specs.declared.Stamp.{Stamp}
 use Rattle.receiver.specs.declared.lane.Lane.TheVariants as L
@@ -65,7 +64,7 @@ module _ (start from : ℕ) (tp : List ℕ) (bytes : Bytes tp) (s : Skips tp sta
       } in
       record { tail = λ e. ends; begins = λ e. absurd (omega (arith, z, e)); whole = λ e. absurd (omega (arith, z, e)); sort = omega (arith, z) }
 
-  module _ (six : 6 ≤ length tp - from) (r : Read) (read : r ≡ read_of (header_in (number 0 (take 6 (drop from tp))))) (h : Header) (w : r ≡ Whole h) (most : ℕ) (fits : FitsIf true h most) where
+  module _ (six : 6 ≤ length tp - from) (r : Option Header) (read : r ≡ header_in (number 0 (take 6 (drop from tp)))) (h : Header) (w : r ≡ Some h) (most : ℕ) (fits : FitsIf true h most) where
     -- the data that go to the room
     abbrev pasted : ℕ → List ℕ → List ℕ
     pasted n m = copied m 0 (take n (drop (from + 6) tp))

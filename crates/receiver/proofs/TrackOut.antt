@@ -7,18 +7,16 @@ use native.Mathlib.Omega.{arith}
 use lib.Dec.{leb}
 use lib.ListN.{drop, length, take}
 use borrow.Author.Tests.{eq-eqb, le-leb, le-ltb, leb-false, lt-leb, ne_eqb}
+use Rattle.std.specs.Prelude.{Ok, None, Option, Some}
 use Rattle.digits.specs.Digits.{number}
 use Rattle.queue.specs.Ring.{copied}
-use Rattle.wire.specs.Reading.{header_in, read_of}
+use Rattle.wire.specs.Reading.{header_in}
 use Rattle.wire.specs.declared.Header.{Header}
-use Rattle.wire.specs.declared.Read.{Read}
-use Rattle.wire.specs.declared.Read.TheVariants as R
 use Rattle.receiver.specs.declared.Place.{Place}
 use Rattle.receiver.specs.declared.lane.Lane.{Lane}
 use Rattle.receiver.specs.declared.lane.Lane.TheVariants as L
 use Rattle.receiver.specs.declared.lane.Met.{Met}
 use Rattle.receiver.specs.declared.lane.Met.TheVariants as M
-use Rattle.receiver.specs.declared.outset.Offset.TheVariants.{Behind}
 use Rattle.receiver.specs.declared.track.Onto.{Onto}
 use Rattle.receiver.specs.declared.track.Track.{Track}
 use Rattle.receiver.specs.InLanes.{EntersAs, FitsIf, SetAs}
@@ -39,19 +37,19 @@ pub tidy_by : (cap : ℕ) (t : Track) (s : ℕ) → Kempt cap t → t.sort ≡ s
 tidy_by cap t s y e = tidy_as cap (lane_in t) (lane_in (turned_of t s)) (lane_by_lem t s e) y.tidy
 
 -- the offset of a place within a TP of a lawful length
-place_behind : (o at len n : ℕ) → o + 4 ≡ at + n → at + n < len → len ≤ 2051 → place_of o at len ≡ Behind n
+place_behind : (o at len n : ℕ) → o + 4 ≡ at + n → at + n < len → len ≤ 2051 → place_of o at len ≡ Ok n
 unfolding place_of
 place_behind o at len n e i small =
     let some : o ≡ 2047 → ⊥ = λ (z : o ≡ 2047). omega (arith, z, e, i, small) in
     let x : o + 4 - at ≡ n = omega (arith, e) in
-    rw (ne_eqb o 2047 some, lt-leb len (o + 4) (omega (arith, e, i)), le-ltb (o + 4) at (omega (arith, e))) (ap Behind x)
+    rw (ne_eqb o 2047 some, lt-leb len (o + 4) (omega (arith, e, i)), le-ltb (o + 4) at (omega (arith, e))) (ap Ok x)
 
 -- that says that no EP begins
-none_behind : (o at len : ℕ) → o ≡ 2047 → place_of o at len ≡ Behind (len - at)
+none_behind : (o at len : ℕ) → o ≡ 2047 → place_of o at len ≡ Ok (len - at)
 unfolding place_of
 none_behind o at len e = rw (eq-eqb o 2047 e)
 
-module _ (t : Track) (o at s n : ℕ) (tp m m' : List ℕ) (e : t.sort ≡ s) (b : place_of o at (length tp) ≡ Behind n) where
+module _ (t : Track) (o at s n : ℕ) (tp m m' : List ℕ) (e : t.sort ≡ s) (b : place_of o at (length tp) ≡ Ok n) where
   out_by_lem : (q : Met) → SetAs q (lane_in (turned_of t s)) n at tp m m' → OutAs q (lane_in t) o at tp m m'
   out_by_lem q set =
       let x = lane_as n at tp m q (lane_in t) (lane_in (turned_of t s)) m' (lane_by_lem t s e) set in
@@ -157,22 +155,22 @@ all_taken k at len start size long there less =
     let z : len - at - k < size = omega (arith, x, less) in
     omega (arith, z, long)
 
-pub head_beyond : (a b : ℕ) (r : Read) → a ≤ b → R.Beyond ≡ cond (leb a b) R.Beyond r
+pub head_beyond : (a b : ℕ) (r : Option Header) → a ≤ b → None ≡ cond (leb a b) None r
 head_beyond a b r i = rw (le-leb a b i)
 
-pub head_read : (a b v w : ℕ) (q : Read) → b < a → v ≡ w → q ≡ read_of (header_in v) → q ≡ cond (leb a b) R.Beyond (read_of (header_in w))
-head_read a b v w q i e f = rw (lt-leb a b i) (f ∙ ap (λ (x : ℕ). read_of (header_in x)) e)
+pub head_read : (a b v w : ℕ) (q : Option Header) → b < a → v ≡ w → q ≡ header_in v → q ≡ cond (leb a b) None (header_in w)
+head_read a b v w q i e f = rw (lt-leb a b i) (f ∙ ap (λ (x : ℕ). header_in x) e)
 
-pub head_whole : (a b w : ℕ) (q : Read) (h : Header) → q ≡ cond (leb a b) R.Beyond (read_of (header_in w)) → q ≡ R.Whole h → (b < a) × (read_of (header_in w) ≡ R.Whole h)
+pub head_whole : (a b w : ℕ) (q : Option Header) (h : Header) → q ≡ cond (leb a b) None (header_in w) → q ≡ Some h → (b < a) × (header_in w ≡ Some h)
 head_whole a b w q h e f = go (leb a b) refl (sym e ∙ f)
   where
-    go : (x : Bool) → leb a b ≡ x → cond x R.Beyond (read_of (header_in w)) ≡ R.Whole h → (b < a) × (read_of (header_in w) ≡ R.Whole h)
+    go : (x : Bool) → leb a b ≡ x → cond x None (header_in w) ≡ Some h → (b < a) × (header_in w ≡ Some h)
     go true l g = let z : ◌≡◌ {A = ℕ} 0 1 = cc in absurd (omega arith)
     go false l g = (leb-false a b l, g)
 
 module _ (t : Track) (o at : ℕ) (tp m : List ℕ) (y : Kempt (length m) t) (s : t.sort ≡ 2) (bytes : Bytes tp) (within : at ≤ length tp)
     (h : Header) (start : ℕ) (from : start ≡ at + 6 - t.have) (long : 6 - t.have < length tp - at)
-    (read : read_of (header_in (number t.word (take (6 - t.have) (drop at tp)))) ≡ R.Whole h) where
+    (read : header_in (number t.word (take (6 - t.have) (drop at tp))) ≡ Some h) where
   tidy_cut : Tidy (length m) (L.Cut (place_in t) t.have t.word)
   tidy_cut = tidy_by (length m) t 2 y s
 
@@ -189,7 +187,7 @@ module _ (t : Track) (o at : ℕ) (tp m : List ℕ) (y : Kempt (length m) t) (s 
 
   -- a complete EP, as it is taken behind the header
   module _ (m' : List ℕ) (fits : FitsIf true h (length m)) where
-    enters_out : (q : Met) (n : ℕ) → 6 - t.have + min h.size (length tp - at - (6 - t.have)) ≡ n → place_of o at (length tp) ≡ Behind n
+    enters_out : (q : Met) (n : ℕ) → 6 - t.have + min h.size (length tp - at - (6 - t.have)) ≡ n → place_of o at (length tp) ≡ Ok n
         → EntersAs q h (place_in t) start tp m m' → OutAs q (lane_in t) o at tp m m'
     enters_out q n least b en =
         let x = subst (λ (j : ℕ). EntersAs q h (place_in t) j tp m m') there en in

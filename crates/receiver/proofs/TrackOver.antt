@@ -10,16 +10,15 @@ use lib.Count.{ones_in}
 use lib.Dec.{eqb, lit<}
 use lib.ListN.{drop, get_or, length, take}
 use borrow.Author.Tests.{eq-eqb, eqb-true, le-leb, lt-leb, ne_eqb}
+use Rattle.std.specs.Prelude.{Err, None, Ok, Option, Some, is_some}
 use Rattle.digits.specs.Digits.{number}
 use Rattle.golay.specs.Answers.{end_flips, end_of}
 use Rattle.golay.specs.Golay.{code_word}
 use Rattle.golay.specs.declared.End.{End}
 use Rattle.golay.specs.declared.End.TheVariants.{Ones, Zeros}
-use Rattle.wire.specs.Reading.{header_in, read_of, tp_number_in, tp_word_of}
+use Rattle.wire.specs.Reading.{header_in, tp_number_in, tp_word_of}
 use Rattle.wire.specs.declared.Header.{Header}
-use Rattle.wire.specs.declared.Read.TheVariants as R
 use Rattle.wire.specs.declared.TpWord.{TpWord}
-use Rattle.wire.specs.declared.TpWord.TheVariants as T
 use Rattle.wire.proofs.Laws.{no_start, no_start_is}
 use Rattle.receiver.specs.declared.Find.TheVariants as F
 use Rattle.receiver.specs.declared.Receiver.{Receiver}
@@ -30,10 +29,7 @@ use Rattle.receiver.specs.declared.entry.Top.TheVariants.{Dropped, Says}
 use Rattle.receiver.specs.declared.kind.Kind.{Kind}
 use Rattle.receiver.specs.declared.lane.Lane.{Lane}
 use Rattle.receiver.specs.declared.lane.Lane.TheVariants as L
-use Rattle.receiver.specs.declared.low.Llep.{Llep}
-use Rattle.receiver.specs.declared.low.Llep.TheVariants.{Broken, Whole}
 use Rattle.receiver.specs.declared.low.Lows.TheVariants as W
-use Rattle.receiver.specs.declared.outset.Offset.TheVariants.{Behind, Outside}
 use Rattle.receiver.specs.declared.track.Brief.{Brief}
 use Rattle.receiver.specs.Call.{Gave, Gives}
 use Rattle.receiver.specs.InLanes.{FitsIf}
@@ -73,18 +69,18 @@ pub full_goes_on : (b : ℕ) → b ≡ 255 → end_of b ≡ end_by true
 unfolding end_of ones_in
 full_goes_on b e = rw e refl
 
-module _ (tp : List ℕ) (at : ℕ) (h : Header) (long : 7 ≤ length tp - at) (read : read_of (header_in (number 0 (take 6 (drop at tp)))) ≡ R.Whole h)
+module _ (tp : List ℕ) (at : ℕ) (h : Header) (long : 7 ≤ length tp - at) (read : header_in (number 0 (take 6 (drop at tp))) ≡ Some h)
     (within : h.size ≤ length tp - at - 7) (fits : FitsIf true h 65535) where
   abbrev last : ℕ
   last = get_or tp (at + 6 + h.size) 0
 
-  whole_llep : (more : Bool) → end_of last ≡ end_by more → llep (drop at tp) ≡ Whole (counting last h) more
+  whole_llep : (more : Bool) → end_of last ≡ end_by more → llep (drop at tp) ≡ Some (counting last h, more)
   whole_llep more e =
       sym (item_whole tp at (number 0 (take 6 (drop at tp))) h long refl read) ∙ sym (closed_in tp at h (omega arith) within)
       ∙ ap (λ (x : End). ended x (counting last h)) e
       ∙ by more
     where
-      by : (more : Bool) → ended (end_by more) (counting last h) ≡ Whole (counting last h) more
+      by : (more : Bool) → ended (end_by more) (counting last h) ≡ Some (counting last h, more)
       by true = refl
       by false = refl
 
@@ -92,7 +88,7 @@ module _ (tp : List ℕ) (at : ℕ) (h : Header) (long : 7 ≤ length tp - at) (
       → lows_of tp at ≡ W.Gives (F.Low h.content (at + 6) h.size) (h.flips + end_flips last) at more (at + 7 + h.size)
   unfolding lows_of lows
   low_given more e =
-      ap (λ (l : Llep). and_then (one_of l at) (λ i. lows (length tp) tp i)) (whole_llep more e)
+      ap (λ (l : Option (Header × Bool)). and_then (one_of l at) (λ i. lows (length tp) tp i)) (whole_llep more e)
       ∙ ap (λ (d : Kind). and_then (passed_of d (counting last h) more at) (λ i. lows (length tp) tp i)) (complete_kind (counting last h) fits.3 fits.4 fits.2)
 
   pub brief_as : (q : Brief) (more : Bool) → end_of last ≡ end_by more
@@ -108,7 +104,7 @@ pub undropped : (r : Receiver) (tp : List ℕ) → DroppedAs 0 r tp
 undropped r tp = record { over = λ e. absurd (omega (arith, e)); told = λ l. absurd (omega (arith, l)); small = omega arith }
 
 module _ (r : Receiver) (tp : List ℕ) (able : Able r) (whole : length tp ≡ r.size) (first : get_or tp 0 0 ≡ 16 * r.stream) where
-  says_word : (low : Bool) (o : ℕ) → tp_word_of (tp_number_in (number 0 (take 3 (drop 1 tp)))) ≡ T.Says low o → Says low o ≡ top_of r.stream tp
+  says_word : (low : Bool) (o : ℕ) → tp_word_of (tp_number_in (number 0 (take 3 (drop 1 tp)))) ≡ Some (record { low = low; offset = o }) → Says low o ≡ top_of r.stream tp
   says_word low o e = top_says r.stream tp low o (omega (arith, first)) (omega (arith, first)) e
 
   lends : (m : List ℕ) → length m ≡ r.limit → Lends r 4 tp m
@@ -137,11 +133,11 @@ module _ (r : Receiver) (tp : List ℕ) (able : Able r) (whole : length tp ≡ r
   pub word_over : (w : ℕ) → w ≡ number 0 (take 3 (drop 1 tp)) → w ≡ 0x7FF38A → DroppedAs 1 r tp
   word_over w e z = passed_over (says_word false 2047 (ap (λ (n : ℕ). tp_word_of (tp_number_in n)) (sym e) ∙ ap tp_word_of (no_start w (z ∙ no_start_is))))
 
-  module _ (w : ℕ) (e : w ≡ number 0 (take 3 (drop 1 tp))) (q : TpWord) (reads : q ≡ tp_word_of (tp_number_in w)) where
+  module _ (w : ℕ) (e : w ≡ number 0 (take 3 (drop 1 tp))) (q : Option TpWord) (reads : q ≡ tp_word_of (tp_number_in w)) where
     word : q ≡ tp_word_of (tp_number_in (number 0 (take 3 (drop 1 tp))))
     word = reads ∙ ap (λ (n : ℕ). tp_word_of (tp_number_in n)) e
 
-    pub beyond_told : q ≡ T.Beyond → DroppedAs 9 r tp
+    pub beyond_told : q ≡ None → DroppedAs 9 r tp
     beyond_told z =
         let top = top_nine r.stream tp (omega (arith, first)) (omega (arith, first)) (sym word ∙ z) in
         record {
@@ -150,7 +146,7 @@ module _ (r : Receiver) (tp : List ℕ) (able : Able r) (whole : length tp ≡ r
           small = lit< tt;
         }
 
-    module _ (low : Bool) (o : ℕ) (says : q ≡ T.Says low o) where
+    module _ (low : Bool) (o : ℕ) (says : q ≡ Some (record { low = low; offset = o })) where
       top : Says low o ≡ top_of r.stream tp
       top = says_word low o (sym word ∙ says)
 
@@ -163,7 +159,7 @@ module _ (r : Receiver) (tp : List ℕ) (able : Able r) (whole : length tp ≡ r
       pub outside_told : low ≡ false → (o ≡ 2047 → ⊥) → length tp ≤ o + 4 → DroppedAs 10 r tp
       unfolding place_of
       outside_told f other far =
-          let place : Outside 10 ≡ place_of o 4 (length tp) = rw (ne_eqb o 2047 other, le-leb (length tp) (o + 4) far) refl in
+          let place : Err 10 ≡ place_of o 4 (length tp) = rw (ne_eqb o 2047 other, le-leb (length tp) (o + 4) far) refl in
           let says = ap (λ (x : Bool). Says x o) (sym f) ∙ top in
           record {
             over = λ x. absurd (omega (arith, x));
@@ -172,11 +168,12 @@ module _ (r : Receiver) (tp : List ℕ) (able : Able r) (whole : length tp ≡ r
             small = lit< tt;
           }
 
-      pub broken_told : low ≡ true → (b : Llep) → b ≡ llep (drop 4 tp) → b ≡ Broken → DroppedAs 11 r tp
+      pub broken_told : low ≡ true → (b : Option (Header × Bool)) → b ≡ llep (drop 4 tp) → is_some b ≡ false → DroppedAs 11 r tp
       unfolding lows_of lows
-      broken_told f b is z =
+      broken_told f (Some x) is z = let q : ◌≡◌ {A = ℕ} 0 1 = cc in absurd (omega arith)
+      broken_told f None is z =
           let says = ap (λ (x : Bool). Says x o) (sym f) ∙ top in
-          let none : lows_of tp 4 ≡ W.Broken 4 = ap (λ (l : Llep). and_then (one_of l 4) (λ i. lows (length tp) tp i)) (sym is ∙ z) in
+          let none : lows_of tp 4 ≡ W.Broken 4 = ap (λ (l : Option (Header × Bool)). and_then (one_of l 4) (λ i. lows (length tp) tp i)) (sym is) in
           record {
             over = λ x. absurd (omega (arith, x));
             told = λ l k t m full. inr (subst (λ (g : Gave). Drops r (count_of k) t 11 g tp m) (begins L.Lost (omega arith) (Says true o) says k t m full)
@@ -192,7 +189,7 @@ module _ (r : Receiver) (tp : List ℕ) (able : Able r) (whole : length tp ≡ r
   all_fill zeros short bytes size k t m full =
       let d = lends m full in
       let long : 10 ≤ length tp = omega (arith, able.size, whole) in
-      let place : place_of 0 4 (length tp) ≡ Behind 0 = rw (lt-leb (length tp) 4 (omega (arith, long))) in
+      let place : place_of 0 4 (length tp) ≡ Ok 0 = rw (lt-leb (length tp) 4 (omega (arith, long))) in
       let says = says_word false 0 (ap tp_word_of (starts_at_once tp long zeros)) in
       let between = (idle_reads 0 4 tp m refl r (count_of k) t 0 d (omega arith) (lit< tt) place).2 in
       let ended = (ahead_idle 4 (length tp) t tp m bytes (fill_all tp long zeros short size bytes) (omega arith) r (count_of k) d).0 in

@@ -6,6 +6,7 @@ use native.Mathlib.Nat.{mod-eq_of_lt}
 use native.Mathlib.Omega.{arith}
 use lib.Dec.{eqb}
 use borrow.Author.Tests.{eqb-true, ne_eqb}
+use Rattle.std.specs.Prelude.{None}
 use Rattle.wire.specs.declared.Header.{Header}
 use Rattle.receiver.specs.declared.Place.{Place}
 use Rattle.receiver.specs.declared.Receiver.{Receiver}
@@ -14,7 +15,6 @@ use Rattle.receiver.specs.declared.lane.Lane.{Lane}
 use Rattle.receiver.specs.declared.lane.Lane.TheVariants as L
 use Rattle.receiver.specs.declared.kind.Kind.TheVariants.{Complete}
 use Rattle.receiver.specs.declared.track.Track.{Track}
-use Rattle.receiver.specs.declared.walk.Kept.TheVariants.{Empty, Of}
 use Rattle.receiver.specs.declared.walk.Phase.{Phase}
 use Rattle.receiver.specs.declared.walk.Phase.TheVariants.{Body, Head, Lost}
 use Rattle.receiver.specs.declared.walk.Walk.{Walk}
@@ -22,7 +22,7 @@ use Rattle.receiver.specs.InLanes.{FitsIf, StandsAs}
 use Rattle.receiver.specs.InTracks.{KeptAs, UnkeptAs}
 use Rattle.receiver.specs.Kind.{kind_of}
 use Rattle.receiver.specs.Lanes.{LanedAs, Tidy}
-use Rattle.receiver.specs.State.{Fine, Settled}
+use Rattle.receiver.specs.State.{Fine, Settled, kept_by}
 use Rattle.receiver.specs.Tracks.{Kempt, Own, OwnIn, TracksAs, lane_in, place_in}
 use Rattle.receiver.specs.Turns.{walk_at}
 use Rattle.receiver.proofs.Laned.{kept_busy, laned, unkept_cut, unkept_idle}
@@ -81,15 +81,15 @@ module _ (t : Track) where
   pub tracks_unkept : (r : Receiver) (w : Walk) → r.stage ≡ Fresh → r.walk ≡ w → UnkeptAs t w → TracksAs t r
   tracks_unkept r w s e u = record { sort = u.sort; flips = u.flips; lane = laned r w s e (lane_in t) (u.lane r.limit) }
 
-  pub tracks_kept : (r : Receiver) (p : Phase) (g : Place) (len c e : ℕ) (b : Place) → r.stage ≡ Fresh → r.walk ≡ walk_at 0 p g (Of c e b len)
-      → Settled p → Fine r.limit p (Of c e b len) → OwnIn g p (Of c e b len) → KeptAs t p g len r.limit → TracksAs t r
+  pub tracks_kept : (r : Receiver) (p : Phase) (g : Place) (len c e : ℕ) (b : Place) → r.stage ≡ Fresh → r.walk ≡ walk_at 0 p g (kept_by c e b len)
+      → Settled p → Fine r.limit p (kept_by c e b len) → OwnIn g p (kept_by c e b len) → KeptAs t p g len r.limit → TracksAs t r
   tracks_kept r p g len c e b s w y z o k = record { sort = k.sort; flips = k.flips; lane = laned r _ s w (lane_in t) (k.lane c e b y z o) }
 
   pub kept_none : (p : Phase) (g : Place) (len cap : ℕ) → t.sort ≡ 4 → t.flips ≡ 0 → KeptAs t p g len cap
   kept_none p g len cap e f = record {
     sort = omega (arith, e);
     flips = omega (arith, f);
-    lane = λ c d b y z o. subst (λ (l : Lane). StandsAs cap l (walk_at 0 p g (Of c d b len))) (sym (lane_none e)) (omega arith);
+    lane = λ c d b y z o. subst (λ (l : Lane). StandsAs cap l (walk_at 0 p g (kept_by c d b len))) (sym (lane_none e)) (omega arith);
   }
 
   -- the data of a complete EP are its own
@@ -100,9 +100,9 @@ module _ (t : Track) where
         sort = omega (arith, sort);
         flips = omega (arith, flips, small);
         lane = λ c e b y z o.
-            (let own : 0 < left → kind_of h ≡ Complete → Own g h left c e b len = subst (λ (x : Phase). OwnIn g x (Of c e b len)) i o in
+            (let own : 0 < left → kind_of h ≡ Complete → Own g h left c e b len = subst (λ (x : Phase). OwnIn g x (kept_by c e b len)) i o in
             let w = own (subst Settled i y) f.0 in
-            subst (λ (x : Lane). StandsAs cap x (walk_at 0 p g (Of c e b len))) (ap (λ (x : ℕ). L.Busy g left len x h.flips) w.content ∙ sym lane)
+            subst (λ (x : Lane). StandsAs cap x (walk_at 0 p g (kept_by c e b len))) (ap (λ (x : ℕ). L.Busy g left len x h.flips) w.content ∙ sym lane)
             (kept_busy cap p g h left i c e b len y z f (sym w.content) (sym w.flips) w.size (sym w.place)));
       }
 
@@ -110,14 +110,14 @@ module _ (t : Track) where
   unkept_as w l s f e stands = record { sort = s; flips = omega (arith, f); lane = λ cap. subst (λ (x : Lane). StandsAs cap x w) (sym e) (stands cap) }
 
   module _ (p : Phase) (g : Place) (f : t.flips ≡ 0) where
-    pub track_none : t.sort ≡ 4 → UnkeptAs t (walk_at 0 p g Empty)
-    track_none e = unkept_as (walk_at 0 p g Empty) L.Other (omega (arith, e)) f (lane_none e) (λ cap. omega arith)
+    pub track_none : t.sort ≡ 4 → UnkeptAs t (walk_at 0 p g None)
+    track_none e = unkept_as (walk_at 0 p g None) L.Other (omega (arith, e)) f (lane_none e) (λ cap. omega arith)
 
-    pub track_lost : t.sort ≡ 0 → p ≡ Lost → UnkeptAs t (walk_at 0 p g Empty)
-    track_lost e q = unkept_as (walk_at 0 p g Empty) L.Lost (omega (arith, e)) f (lane_lost e) (λ cap. (ap (λ (x : Phase). walk_at 0 x g Empty) q, omega arith))
+    pub track_lost : t.sort ≡ 0 → p ≡ Lost → UnkeptAs t (walk_at 0 p g None)
+    track_lost e q = unkept_as (walk_at 0 p g None) L.Lost (omega (arith, e)) f (lane_lost e) (λ cap. (ap (λ (x : Phase). walk_at 0 x g None) q, omega arith))
 
-    pub track_idle : t.sort ≡ 1 → (n w : ℕ) → p ≡ Head n w → n ≡ 0 → Settled p → UnkeptAs t (walk_at 0 p g Empty)
-    track_idle e n w q z s = unkept_as (walk_at 0 p g Empty) L.Idle (omega (arith, e)) f (lane_idle e) (λ cap. unkept_idle cap p g n w q z s)
+    pub track_idle : t.sort ≡ 1 → (n w : ℕ) → p ≡ Head n w → n ≡ 0 → Settled p → UnkeptAs t (walk_at 0 p g None)
+    track_idle e n w q z s = unkept_as (walk_at 0 p g None) L.Idle (omega (arith, e)) f (lane_idle e) (λ cap. unkept_idle cap p g n w q z s)
 
-    pub track_cut : t.sort ≡ 2 → (n w : ℕ) → lane_in t ≡ L.Cut g n w → p ≡ Head n w → (n ≡ 0 → ⊥) → Settled p → UnkeptAs t (walk_at 0 p g Empty)
-    track_cut e n w l q z s = unkept_as (walk_at 0 p g Empty) (L.Cut g n w) (omega (arith, e)) f l (λ cap. unkept_cut cap p g n w q z s)
+    pub track_cut : t.sort ≡ 2 → (n w : ℕ) → lane_in t ≡ L.Cut g n w → p ≡ Head n w → (n ≡ 0 → ⊥) → Settled p → UnkeptAs t (walk_at 0 p g None)
+    track_cut e n w l q z s = unkept_as (walk_at 0 p g None) (L.Cut g n w) (omega (arith, e)) f l (λ cap. unkept_cut cap p g n w q z s)

@@ -1,7 +1,6 @@
 -- What the parts do to the state by value is what the call asks for.
 use mathlib.Core.Path.{ap, refl, sym, ◌∙◌, ◌≡◌}
 use mathlib.Core.Bool.{Bool, cond, false, true}
-use mathlib.Core.Option.{Option, none, some}
 use mathlib.Core.List.{List, [], ◌∷◌}
 use Prim.Native.Nat.{ℕ, ◌*◌, ◌+◌, ◌-◌, ◌<◌, ◌≤◌}
 use native.Mathlib.Omega.{arith}
@@ -9,12 +8,12 @@ use lib.Dec.{leb}
 use lib.ListN.{drop, length, take}
 use lib.Seq.{length-take-le}
 use borrow.Author.Tests.{le-leb, leb-false, leb-true, lt-leb}
+use Rattle.std.specs.Prelude.{None, Option, Some}
 use Rattle.wire.specs.declared.Header.{Header}
 use Rattle.receiver.specs.declared.kind.Kind.{Kind}
 use Rattle.receiver.specs.declared.kind.Kind.TheVariants.{Complete, Fill, First, Last, Middle, Reserved}
 use Rattle.receiver.specs.declared.walk.Gain.TheVariants.{Notice}
 use Rattle.receiver.specs.declared.walk.Kept.{Kept}
-use Rattle.receiver.specs.declared.walk.Kept.TheVariants.{Empty, Of}
 use Rattle.receiver.specs.declared.walk.Phase.{Phase}
 use Rattle.receiver.specs.declared.walk.Phase.TheVariants.{Body, Head, Judged}
 use Rattle.receiver.specs.declared.walk.Walk.{Walk}
@@ -31,16 +30,16 @@ use Rattle.receiver.specs.Turns.{admit_of, empty_of, finish_of, fits_of, further
 use Rattle.receiver.specs.InWalk.{Carries, shown}
 use Rattle.receiver.proofs.Heading.{on_with}
 
-broken_law : (m : List ℕ) (h : Ep) (k : Kept) → broken wire h (held_of k m) ≡ cond (empty_of k) (held_of k m, none) (free, some (notice 14 h.at))
-broken_law m h Empty = refl
-broken_law m h (Of c sum b n) = refl
+broken_law : (m : List ℕ) (h : Ep) (k : Option Kept) → broken wire h (held_of k m) ≡ cond (empty_of k) (held_of k m, None) (free, Some (notice 14 h.at))
+broken_law m h None = refl
+broken_law m h (Some k) = refl
 
-goes_law : (m : List ℕ) (h : Ep) (k : Kept) → goes_on wire h (held_of k m) ≡ cond (holds_of k h.header.content) (held_of k m, none) (free, some (notice 14 h.at))
-goes_law m h Empty = refl
-goes_law m h (Of c₀ sum b n) = refl
+goes_law : (m : List ℕ) (h : Ep) (k : Option Kept) → goes_on wire h (held_of k m) ≡ cond (holds_of k h.header.content) (held_of k m, None) (free, Some (notice 14 h.at))
+goes_law m h None = refl
+goes_law m h (Some k) = refl
 
-pub meets_law : (m : List ℕ) (d : Kind) (h : Ep) (k : Kept)
-    → meets wire d h (held_of k m) ≡ cond (meets_of d k h.header.content) (held_of k m, none) (free, some (notice 14 h.at))
+pub meets_law : (m : List ℕ) (d : Kind) (h : Ep) (k : Option Kept)
+    → meets wire d h (held_of k m) ≡ cond (meets_of d k h.header.content) (held_of k m, None) (free, Some (notice 14 h.at))
 meets_law m Fill h k = broken_law m h k
 meets_law m Reserved h k = broken_law m h k
 meets_law m Complete h k = broken_law m h k
@@ -57,21 +56,21 @@ module _ (cap : ℕ) (t : Stamp) (tp m : List ℕ) (full : length m ≡ cap) whe
       → 3 * (length tp - j) + 1 < toil (length tp) w
       → came j (within wire (ep_at g h) h.size) (ending wire (ep_at g h) h.size) (fits wire cap (ep_at g h) c d) ≡ pull_of cap t w tp m
       → leb h.size (cap - n) ≡ b
-      → Carries cap t w tp m (cond b (goes j (Body h h.size) g (kept_as c n)) (stops j (Body h h.size) g Empty (Notice 15))) m
+      → Carries cap t w tp m (cond b (goes j (Body h h.size) g (kept_as c n)) (stops j (Body h h.size) g None (Notice 15))) m
   unfolding Carries pull_of shown
   fits_by true w j h g c n d x l r u e q =
       let y : length d ≡ n = ap length x ∙ length-take-le n m (omega arith) in
       let z : leb (length d + h.size) cap ≡ true = le-leb (length d + h.size) cap (omega (arith, leb-true h.size (cap - n) q)) in
-      let v : fits wire cap (ep_at g h) c d ≡ (held c d, none) = rw z in
+      let v : fits wire cap (ep_at g h) c d ≡ (held c d, None) = rw z in
       record {
-        same = sym (ap (λ (d : List ℕ). came j (within wire (ep_at g h) h.size) (ending wire (ep_at g h) h.size) (held c d, none)) x) ∙ sym (ap (came j (within wire (ep_at g h) h.size) (ending wire (ep_at g h) h.size)) v) ∙ e;
+        same = sym (ap (λ (d : List ℕ). came j (within wire (ep_at g h) h.size) (ending wire (ep_at g h) h.size) (held c d, None)) x) ∙ sym (ap (came j (within wire (ep_at g h) h.size) (ending wire (ep_at g h) h.size)) v) ∙ e;
         sound = record { at = l; phase = omega (arith, leb-true h.size (cap - n) q) };
         less = u;
       }
   fits_by false w j h g c n d x l r u e q =
       let y : length d ≡ n = ap length x ∙ length-take-le n m (omega arith) in
       let z : leb (length d + h.size) cap ≡ false = lt-leb (length d + h.size) cap (omega (arith, leb-false h.size (cap - n) q)) in
-      let v : fits wire cap (ep_at g h) c d ≡ (free, some (notice 15 g)) = rw z in
+      let v : fits wire cap (ep_at g h) c d ≡ (free, Some (notice 15 g)) = rw z in
       record {
         same = sym (ap (came j (within wire (ep_at g h) h.size) (ending wire (ep_at g h) h.size)) v) ∙ e;
         sound = record { at = l; phase = omega arith };
@@ -85,15 +84,15 @@ module _ (cap : ℕ) (t : Stamp) (tp m : List ℕ) (full : length m ≡ cap) whe
   unfolding fits_of
   fits_turned w j h g c n d x l r u e = fits_by (leb h.size (cap - n)) w j h g c n d x l r u e refl
 
-  further_turned : (w : Walk) (j : ℕ) (h : Header) (g : Place) (k : Kept) → j ≤ length tp → Roomy cap k 0
+  further_turned : (w : Walk) (j : ℕ) (h : Header) (g : Place) (k : Option Kept) → j ≤ length tp → Roomy cap k 0
       → 3 * (length tp - j) + 1 < toil (length tp) w
       → came j (within wire (ep_at g h) h.size) (ending wire (ep_at g h) h.size) (further wire cap (ep_at g h) (held_of k m)) ≡ pull_of cap t w tp m
       → Carries cap t w tp m (further_of j h g k cap) m
   unfolding Carries pull_of
-  further_turned w j h g Empty l r u e = record { same = e; sound = record { at = l; phase = omega arith }; less = u }
-  further_turned w j h g (Of c sum b n) l r u e = fits_turned w j h g (join_of (tag_of c sum b) (ep_at g h)) n (take n m) refl l (omega arith) u e
+  further_turned w j h g None l r u e = record { same = e; sound = record { at = l; phase = omega arith }; less = u }
+  further_turned w j h g (Some k) l r u e = fits_turned w j h g (join_of (tag_of k.content k.repaired k.began) (ep_at g h)) k.len (take k.len m) refl l (omega arith) u e
 
-  admit_by : (d : Kind) (w : Walk) (j : ℕ) (h : Header) (g : Place) (k : Kept) → j ≤ length tp → Roomy cap k 0
+  admit_by : (d : Kind) (w : Walk) (j : ℕ) (h : Header) (g : Place) (k : Option Kept) → j ≤ length tp → Roomy cap k 0
       → 3 * (length tp - j) + 1 < toil (length tp) w
       → came j (within wire (ep_at g h) h.size) (ending wire (ep_at g h) h.size) (admit wire cap d (ep_at g h) (held_of k m)) ≡ pull_of cap t w tp m
       → Carries cap t w tp m (admit_of d j h g k cap) m
@@ -113,42 +112,42 @@ module _ (cap : ℕ) (t : Stamp) (tp m : List ℕ) (full : length m ≡ cap) whe
       let s' = rw (← v) at s in
       rw (← v) (admit_by (kind_of h) (walk_at w.at (Judged h) w.began w.kept) w.at h w.began w.kept s'.at s'.phase (omega arith) refl)
 
-  opened_by : (b : Bool) (w : Walk) (j : ℕ) (h : Header) (g : Place) (k : Kept) (T : Took wire) → j ≤ length tp → Roomy cap k 0
+  opened_by : (b : Bool) (w : Walk) (j : ℕ) (h : Header) (g : Place) (k : Option Kept) (T : Took wire) → j ≤ length tp → Roomy cap k 0
       → 3 * (length tp - j) + 1 < toil (length tp) w
       → came j (within wire (ep_at g h) h.size) (entered (ep_at g h) ∷ ending wire (ep_at g h) h.size) T ≡ pull_of cap t w tp m
-      → T ≡ cond b (held_of k m, none) (free, some (notice 14 g))
-      → Carries cap t w tp m (cond b (admit_of (kind_of h) j h g k cap) (stops j (Judged h) g Empty (Notice 14))) m
+      → T ≡ cond b (held_of k m, None) (free, Some (notice 14 g))
+      → Carries cap t w tp m (cond b (admit_of (kind_of h) j h g k cap) (stops j (Judged h) g None (Notice 14))) m
   unfolding Carries pull_of shown
   opened_by true w j h g k T l r u e q =
       admit_by (kind_of h) w j h g k l r u (sym (ap (came j (within wire (ep_at g h) h.size) (entered (ep_at g h) ∷ ending wire (ep_at g h) h.size)) q) ∙ e)
   opened_by false w j h g k T l r u e q =
       record { same = sym (ap (came j (within wire (ep_at g h) h.size) (entered (ep_at g h) ∷ ending wire (ep_at g h) h.size)) q) ∙ e; sound = record { at = l; phase = omega arith }; gained = omega arith }
 
-  pub whole_turned : (w : Walk) (j : ℕ) (o : Option Header) (g : Place) (k : Kept) → j ≤ length tp → Roomy cap k 0
+  pub whole_turned : (w : Walk) (j : ℕ) (o : Option Header) (g : Place) (k : Option Kept) → j ≤ length tp → Roomy cap k 0
       → 3 * (length tp - j) + 1 < toil (length tp) w
       → on_with cap t (held_of k m) m (whole wire g (ep_if g o)) j (drop j tp) ≡ pull_of cap t w tp m
       → Carries cap t w tp m (whole_of j o g k cap) m
   unfolding Carries pull_of shown opened_of
-  whole_turned w j none g k l r u e = record { same = e; sound = record { at = l; phase = omega arith }; gained = omega arith }
-  whole_turned w j (some h) g k l r u e =
+  whole_turned w j None g k l r u e = record { same = e; sound = record { at = l; phase = omega arith }; gained = omega arith }
+  whole_turned w j (Some h) g k l r u e =
       opened_by (meets_of (kind_of h) k h.content) w j h g k (meets wire (kind_of h) (ep_at g h) (held_of k m)) l r u e (meets_law m (kind_of h) (ep_at g h) k)
 
-  handed_turned : (w : Walk) (mₒ : List ℕ) (j : ℕ) (g : Place) (k : Kept) → j ≤ length tp → Roomy cap k 0
+  handed_turned : (w : Walk) (mₒ : List ℕ) (j : ℕ) (g : Place) (k : Option Kept) → j ≤ length tp → Roomy cap k 0
       → 3 * (length tp - j) < toil (length tp) w
       → came j idle [] (handed wire (held_of k m)) ≡ pull_of cap t w tp mₒ
       → Carries cap t w tp mₒ (handed_of j g k) m
   unfolding Carries pull_of shown
-  handed_turned w mₒ j g Empty l r u e = record { same = e; sound = record { at = l; phase = omega arith }; less = omega arith }
-  handed_turned w mₒ j g (Of c sum b n) l r u e = record { same = e; sound = record { at = l; phase = omega arith }; gained = r }
+  handed_turned w mₒ j g None l r u e = record { same = e; sound = record { at = l; phase = omega arith }; less = omega arith }
+  handed_turned w mₒ j g (Some k) l r u e = record { same = e; sound = record { at = l; phase = omega arith }; gained = r }
 
-  kept_turned : (w : Walk) (mₒ : List ℕ) (j : ℕ) (g : Place) (k : Kept) → j ≤ length tp → Roomy cap k 0
+  kept_turned : (w : Walk) (mₒ : List ℕ) (j : ℕ) (g : Place) (k : Option Kept) → j ≤ length tp → Roomy cap k 0
       → 3 * (length tp - j) < toil (length tp) w
-      → came j idle [] (held_of k m, none) ≡ pull_of cap t w tp mₒ
+      → came j idle [] (held_of k m, None) ≡ pull_of cap t w tp mₒ
       → Carries cap t w tp mₒ (goes j (Head 0 0) g k) m
   unfolding Carries pull_of shown
   kept_turned w mₒ j g k l r u e = record { same = e; sound = record { at = l; phase = (omega arith, omega arith, r) }; less = omega arith }
 
-  pub finish_by : (d : Kind) (w : Walk) (mₒ : List ℕ) (j : ℕ) (g : Place) (k : Kept) → j ≤ length tp → Roomy cap k 0
+  pub finish_by : (d : Kind) (w : Walk) (mₒ : List ℕ) (j : ℕ) (g : Place) (k : Option Kept) → j ≤ length tp → Roomy cap k 0
       → 3 * (length tp - j) < toil (length tp) w
       → came j idle [] (finish wire d (held_of k m)) ≡ pull_of cap t w tp mₒ
       → Carries cap t w tp mₒ (finish_of d j g k) m

@@ -2,7 +2,6 @@
 -- of the finds to come and leaves the others. Assumes nothing.
 use mathlib.Core.Path.{ap, refl, sym, ◌∙◌, ◌≡◌}
 use mathlib.Core.Bool.{Bool, cond, false, true}
-use mathlib.Core.Option.{Option, none, some}
 use mathlib.Core.List.{List, [], ◌∷◌}
 use Prim.Native.Nat.{suc, zero, ℕ, ◌%◌, ◌+◌, ◌-◌, ◌<◌, ◌≤◌}
 use native.Mathlib.Omega.{arith}
@@ -10,6 +9,7 @@ use lib.Dec.{eqb, leb}
 use lib.ListN.{drop, get_or, length, take}
 use lib.Seq.{drop-drop}
 use borrow.Author.Tests.{eq-eqb}
+use Rattle.std.specs.Prelude.{None, Some, Option}
 use Rattle.digits.specs.Digits.{number}
 use Rattle.wire.specs.Reading.{stream_of, tp_number_in, version_of}
 use Rattle.wire.specs.declared.Header.{Header}
@@ -19,8 +19,6 @@ use Rattle.receiver.specs.declared.Stamp.{Stamp}
 use Rattle.receiver.specs.declared.stages.Stamps.{Stamps}
 use Rattle.receiver.specs.declared.kind.Kind.{Kind}
 use Rattle.receiver.specs.declared.kind.Kind.TheVariants.{Complete, Fill, First, Last, Middle, Reserved}
-use Rattle.receiver.specs.declared.low.Llep.{Llep}
-use Rattle.receiver.specs.declared.low.Llep.TheVariants.{Broken, Whole}
 use Rattle.receiver.specs.Call.{counted_of, first_call, gone, low_call, payload_call, unchanged, word_call}
 use Rattle.receiver.specs.Forecast.{dropped}
 use Rattle.receiver.specs.Frame.{Frame}
@@ -70,12 +68,12 @@ module _ (r : Receiver) (t : Stamp) (o : ℕ) (tp m : List ℕ) where
   low_kind Middle h more k at a b c ih = ap (before (notice 16 (place_at t at) ∷ [])) (stage_next more k (at + 7 + h.size) (omega arith) b c)
   low_kind Last h more k at a b c ih = ap (before (notice 16 (place_at t at) ∷ [])) (stage_next more k (at + 7 + h.size) (omega arith) b c)
 
-  low_by : (l : Llep) (k at : ℕ) → llep (drop at tp) ≡ l → 4 ≤ at → length tp - at < suc k
+  low_by : (l : Option (Header × Bool)) (k at : ℕ) → llep (drop at tp) ≡ l → 4 ≤ at → length tp - at < suc k
       → ((i : ℕ) → 4 ≤ i → i ≤ length tp → length tp - i < k → ByCalls k i)
       → low_on (length m) t l At With o at tp (λ i. low_rest (length m) t k At With o i tp)
       ≡ afterwards (length m) t (low_call (and_then (one_of l at) (λ i. lows k tp i)) r t o tp m) tp
-  low_by Broken k at e a c ih = start_rest_lem (length m) t r (dropped wire 11 (place_at t at) (placed t at (drop at tp))) at tp m refl
-  low_by (Whole h more) k at e a c ih = let q = inside_at tp at h more e in low_kind (kind_of h) h more k at a q (omega arith) ih
+  low_by None k at e a c ih = start_rest_lem (length m) t r (dropped wire 11 (place_at t at) (placed t at (drop at tp))) at tp m refl
+  low_by (Some (h, more)) k at e a c ih = let q = inside_at tp at h more e in low_kind (kind_of h) h more k at a q (omega arith) ih
 
   low_calls : (k at : ℕ) → 4 ≤ at → at ≤ length tp → length tp - at < k → ByCalls k at
   unfolding low_rest lows
@@ -102,8 +100,8 @@ module _ (r : Receiver) (tp m : List ℕ) (l : 4 ≤ length tp) where
   Holds = held_of r.walk.kept m
 
   word_rest : (t : Stamp) (o : Option ℕ) → brought (length m) Here Holds (worded o t (drop 4 tp)) ≡ afterwards (length m) t (word_call o r t tp m) tp
-  word_rest t none = refl
-  word_rest t (some w) = by (leb 2048 w)
+  word_rest t None = refl
+  word_rest t (Some w) = by (leb 2048 w)
     where
       by : (b : Bool)
           → brought (length m) Here Holds (behind (low_part_if b t (drop 4 tp)) (low_part_if b t (drop 4 tp)).behind t (w % 2048) (drop 4 tp))

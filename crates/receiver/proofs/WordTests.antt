@@ -1,21 +1,11 @@
 -- Small tests of numbers that the words of a receiver need. Assumes nothing.
-use Prim.Native.Nat.{ℕ, ◌+◌, ◌-◌, ◌≤◌, ◌<◌}
-use mathlib.Core.Bool.{Bool, true, false, cond}
-use mathlib.Core.Path.{◌≡◌, refl, sym}
+use Prim.Native.Nat.{ℕ, ◌≤◌, ◌<◌}
+use mathlib.Core.Bool.{Bool, true, false, cond, ◌||◌}
+use mathlib.Core.Path.{◌≡◌, refl}
 use native.Mathlib.Omega.{arith}
-use lib.Dec.{leb, eqb}
-use borrow.Author.Tests.{le-leb, lt-leb, leb-true, leb-false, eq-eqb, ne_eqb, eqb-false}
+use lib.Dec.{ltb, eqb}
+use borrow.Author.Tests.{eq-eqb, ne_eqb, eqb-false}
 use Rattle.receiver.specs.Words.{begunb, left_in, phasedb, stagedb}
-
-pub shift_le : (n k c : ℕ) → k ≤ c → leb n (c - k) ≡ leb (k + n) c
-shift_le n k c h = go (leb (k + n) c) refl
-  where
-    go : (t : Bool) → leb (k + n) c ≡ t → leb n (c - k) ≡ t
-    go true e = let f : k + n ≤ c = leb-true (k + n) c e in le-leb n (c - k) (omega arith)
-    go false e = let f : c < k + n = leb-false (k + n) c e in lt-leb n (c - k) (omega arith)
-
-pub past : (n k c : ℕ) → c < k → false ≡ leb (k + n) c
-past n k c h = sym (lt-leb (k + n) c (omega arith))
 
 over_two : (n : ℕ) → (n ≡ 0 → ⊥) → (n ≡ 1 → ⊥) → (n ≡ 2 → ⊥) → 2 < n
 over_two n a b c = omega (arith, a, b, c)
@@ -64,9 +54,9 @@ module _ (s : ℕ) where
       let w : eqb s 3 ≡ false = ne_eqb s 3 (λ (e : s ≡ 3). omega arith) in
       rw (x, y, z, w)
 
-  pub phased_judged : (stage a b left : ℕ) → (s ≡ 0 → ⊥) → (s ≡ 1 → ⊥) → (s ≡ 3 → ⊥) → s ≤ 3 → eqb stage 3 ≡ phasedb stage s a b left
+  pub phased_under_way : (stage a b left : ℕ) → (s ≡ 0 → ⊥) → (s ≡ 1 → ⊥) → (s ≡ 2 → ⊥) → s ≤ 3 → eqb stage 3 || ltb 0 left ≡ phasedb stage s a b left
   unfolding phasedb
-  phased_judged stage a b left x y w h = let two : s ≡ 2 = omega (arith, x, y, w) in rw (ne_eqb s 0 x, ne_eqb s 1 y, eq-eqb s 2 two)
+  phased_under_way stage a b left x y w h = let three : s ≡ 3 = omega (arith, x, y, w) in rw (ne_eqb s 0 x, ne_eqb s 1 y, ne_eqb s 2 w, eq-eqb s 3 three)
 
   pub left_all : (n : ℕ) → 3 ≤ s → n ≡ left_in s n
   unfolding left_in

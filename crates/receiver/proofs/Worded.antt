@@ -10,9 +10,9 @@ use native.Mathlib.Nat.{mod-eq_of_lt, mod-lt}
 use lib.Dec.{leb, ltb, eqb}
 use lib.ListN.{get_or}
 use borrow.Author.Tests.{le-leb, leb-true, lt-ltb, le-ltb, ltb-true, ne_eqb, eqb-true}
+use Rattle.std.specs.Prelude.{None, Some, Option}
 use Rattle.wire.specs.declared.Header.{Header}
 use Rattle.receiver.specs.declared.Receiver.{Receiver}
-use Rattle.receiver.specs.declared.Opened.TheVariants as O
 use Rattle.receiver.specs.declared.Place.{Place}
 use Rattle.receiver.specs.declared.Stage.{Stage}
 use Rattle.receiver.specs.declared.Stage.TheVariants.{Fresh, Low, Due, Plain}
@@ -20,11 +20,10 @@ use Rattle.receiver.specs.declared.Step.{Step}
 use Rattle.receiver.specs.declared.walk.Phase.{Phase}
 use Rattle.receiver.specs.declared.walk.Phase.TheVariants.{Lost, Head, Judged, Body}
 use Rattle.receiver.specs.declared.walk.Kept.{Kept}
-use Rattle.receiver.specs.declared.walk.Kept.TheVariants.{Empty, Of}
 use Rattle.receiver.specs.declared.walk.Walk.{Walk}
 use Rattle.receiver.specs.Call.{Gave, Gives, call_of, stamps_of, stepped}
 use Rattle.receiver.specs.Place.{own_of, start_of}
-use Rattle.receiver.specs.State.{Fine, Roomy, Settled, Staged}
+use Rattle.receiver.specs.State.{Fine, Roomy, Settled, Staged, kept_by}
 use Rattle.receiver.specs.Words.{words_of, stage_words, place_words, head_words, phase_words, kept_words, joined, stage_in, header_from, phase_in, place_in, kept_in, receiver_in, openedb, begunb, stagedb, roomyb, below, phasedb, left_in, fitb, datalessb, bareb, of_words, Opens, HeaderBytes, PhaseBytes, KeptBytes, Fit, FitIf}
 use Rattle.receiver.proofs.Lasting.{lasts_as}
 use Rattle.receiver.proofs.Pinned.{began_in, plainly}
@@ -64,14 +63,14 @@ roomy : (cap s c e k n : ℕ) (g : Place) → roomyb cap s k n ≡ true → Room
 unfolding roomyb kept_in
 roomy cap s c e k n g h = go (eqb s 0) (eqb s 1) h
   where
-    go : (t u : Bool) → cond t true (cond u (leb (k + n) cap) false) ≡ true → Roomy cap (cond t Empty (Of (c % 256) e g k)) n
+    go : (t u : Bool) → cond t true (cond u (leb (k + n) cap) false) ≡ true → Roomy cap (cond t None (kept_by (c % 256) e g k)) n
     go true u f = omega arith
     go false true f = leb-true (k + n) cap f
     go false false f = no false f refl
 
 -- the words of a phase, in this stage
 module _ (stage s a b c d l : ℕ) (p : phasedb stage s a b l ≡ true) where
-  fine : (cap : ℕ) (k : Kept) → Roomy cap k (left_in s l) → Fine cap (phase_in s a b c d l) k
+  fine : (cap : ℕ) (k : Option Kept) → Roomy cap k (left_in s l) → Fine cap (phase_in s a b c d l) k
   unfolding phasedb left_in phase_in
   fine cap k r = go (eqb s 0) (eqb s 1) (eqb s 2) (eqb s 3) p r
     where
@@ -137,7 +136,7 @@ kept_bytes : (s c e n : ℕ) (g : Place) → KeptBytes (kept_in s c e n g)
 unfolding kept_in
 kept_bytes s c e n g = go (eqb s 0)
   where
-    go : (t : Bool) → KeptBytes (cond t Empty (Of (c % 256) e g n))
+    go : (t : Bool) → KeptBytes (cond t None (kept_by (c % 256) e g n))
     go true = omega arith
     go false = byte c
 
@@ -245,7 +244,7 @@ settled_words Plain w h = inl refl
 abbrev PhasedBy : ℕ → List ℕ → Type 0
 PhasedBy k ws = phasedb k (get_or ws 0 0) (get_or ws 1 0) (get_or ws 2 0) (get_or ws 5 0) ≡ true
 
-phased_words : (cap k : ℕ) (p : Phase) (g : Place) (h : Kept) → Fine cap p h → (eqb k 3 ≡ true) ⊎ Settled p → PhasedBy k (phase_words p g)
+phased_words : (cap k : ℕ) (p : Phase) (g : Place) (h : Option Kept) → Fine cap p h → (eqb k 3 ≡ true) ⊎ Settled p → PhasedBy k (phase_words p g)
 unfolding phasedb
 phased_words cap k Lost g h f s = refl
 phased_words cap k (Head n w) g h f s =
@@ -259,15 +258,15 @@ phased_words cap k (Body x n) g h f (inr z) = go (eqb k 3)
     go true = refl
     go false = lt-ltb 0 n z
 
-rooming : (cap : ℕ) (k : Kept) (n : ℕ) → Roomy cap k n → roomyb cap (get_or (kept_words k) 0 0) (get_or (kept_words k) 3 0) n ≡ true
+rooming : (cap : ℕ) (k : Option Kept) (n : ℕ) → Roomy cap k n → roomyb cap (get_or (kept_words k) 0 0) (get_or (kept_words k) 3 0) n ≡ true
 unfolding roomyb
-rooming cap Empty n h = refl
-rooming cap (Of c e g i) n h = le-leb (i + n) cap h
+rooming cap None n h = refl
+rooming cap (Some k) n h = le-leb (k.len + n) cap h
 
-abbrev RoomyBy : ℕ → Kept → List ℕ → Type 0
+abbrev RoomyBy : ℕ → Option Kept → List ℕ → Type 0
 RoomyBy cap k ws = roomyb cap (get_or (kept_words k) 0 0) (get_or (kept_words k) 3 0) (left_in (get_or ws 0 0) (get_or ws 5 0)) ≡ true
 
-roomy_words : (cap : ℕ) (p : Phase) (g : Place) (k : Kept) → Fine cap p k → RoomyBy cap k (phase_words p g)
+roomy_words : (cap : ℕ) (p : Phase) (g : Place) (k : Option Kept) → Fine cap p k → RoomyBy cap k (phase_words p g)
 unfolding left_in
 roomy_words cap Lost g k f = rooming cap k 0 f
 roomy_words cap (Head n w) g k f = by_head n w g (RoomyBy cap k) (λ e. rooming cap k 0 f.2) (rooming cap k 0 f.2)
@@ -315,19 +314,19 @@ back_began (Head n w) g = go (eqb n 0)
 back_began (Judged h) g = refl
 back_began (Body h n) g = refl
 
-abbrev kept_of_lem : List ℕ → Kept
+abbrev kept_of_lem : List ℕ → Option Kept
 kept_of_lem ws = kept_in (get_or ws 0 0) (get_or ws 1 0) (get_or ws 2 0) (get_or ws 3 0) (place_in (get_or ws 4 0) (get_or ws 5 0) (get_or ws 6 0))
 
-back_kept : (k : Kept) → KeptBytes k → kept_of_lem (kept_words k) ≡ k
+back_kept : (k : Option Kept) → KeptBytes k → kept_of_lem (kept_words k) ≡ k
 unfolding kept_in
-back_kept Empty b = refl
-back_kept (Of c e g n) b = ap (λ (x : ℕ). Of x e g n) (mod-eq_of_lt b)
+back_kept None b = refl
+back_kept (Some k) b = ap (λ (x : ℕ). kept_by x k.repaired k.began k.len) (mod-eq_of_lt b)
 
-unfoldable made : ℕ → ℕ → ℕ → ℕ → Stage → ℕ → Phase → Place → Kept → Receiver
+unfoldable made : ℕ → ℕ → ℕ → ℕ → Stage → ℕ → Phase → Place → Option Kept → Receiver
 made size stream limit count s at p g k =
     record { size = size; stream = stream; limit = limit; count = count; stage = s; walk = record { at = at; phase = p; began = g; kept = k } }
 
-same_made : (size limit count at : ℕ) {a b : ℕ} {s t : Stage} {p q : Phase} {g h : Place} {k l : Kept} → a ≡ b → s ≡ t → p ≡ q → g ≡ h → k ≡ l
+same_made : (size limit count at : ℕ) {a b : ℕ} {s t : Stage} {p q : Phase} {g h : Place} {k l : Option Kept} → a ≡ b → s ≡ t → p ≡ q → g ≡ h → k ≡ l
     → made size a limit count s at p g k ≡ made size b limit count t at q h l
 same_made size limit count at d e f g h = cc
 
@@ -340,20 +339,20 @@ back_receiver r h =
     (back_began r.walk.phase r.walk.began) (back_kept r.walk.kept h.bytes.kept)
 
 -- BACK: a receiver that fits comes back from its words
-pub back : (r : Receiver) → Fit r → of_words (words_of r) ≡ O.Ready (plainly r)
+pub back : (r : Receiver) → Fit r → of_words (words_of r) ≡ Some (plainly r)
 unfolding of_words
 back r h =
-    ap (λ (t : Bool). cond t (O.Ready (receiver_in (words_of r))) O.Refused) (passes r h) ∙ ap O.Ready (back_receiver r h)
+    ap (λ (t : Bool). cond t (Some (receiver_in (words_of r))) None) (passes r h) ∙ ap Some (back_receiver r h)
 
 -- the three ends of `of_words`
-pub accepted : (ws : List ℕ) (t : Bool) (r : Receiver) → t ≡ fitb ws → t ≡ true → r ≡ receiver_in ws → (O.Ready r ≡ of_words ws) × FitIf (O.Ready r)
+pub accepted : (ws : List ℕ) (t : Bool) (r : Receiver) → t ≡ fitb ws → t ≡ true → r ≡ receiver_in ws → (Some r ≡ of_words ws) × FitIf (Some r)
 unfolding of_words
 accepted ws t r a b c =
-    (ap O.Ready c ∙ ap (λ (t : Bool). cond t (O.Ready (receiver_in ws)) O.Refused) (sym b ∙ a), subst (λ (x : Receiver). Fit x) (sym c) (fits ws (sym a ∙ b)))
+    (ap Some c ∙ ap (λ (t : Bool). cond t (Some (receiver_in ws)) None) (sym b ∙ a), subst (λ (x : Receiver). Fit x) (sym c) (fits ws (sym a ∙ b)))
 
-pub refused : (ws : List ℕ) (t : Bool) → t ≡ fitb ws → t ≡ false → (O.Refused ≡ of_words ws) × FitIf O.Refused
+pub refused : (ws : List ℕ) (t : Bool) → t ≡ fitb ws → t ≡ false → (None ≡ of_words ws) × FitIf None
 unfolding of_words
-refused ws t a b = (ap (λ (t : Bool). cond t (O.Ready (receiver_in ws)) O.Refused) (sym b ∙ a), omega arith)
+refused ws t a b = (ap (λ (t : Bool). cond t (Some (receiver_in ws)) None) (sym b ∙ a), omega arith)
 
 -- ---- the same words
 

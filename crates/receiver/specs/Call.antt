@@ -1,16 +1,11 @@
 -- What the public functions promise: an opening, one call, a told gap, and the stretch that a find names.
 -- Assumes nothing.
-use Rattle.std.specs.Prelude.{ℕ, ◌-◌, ◌%◌, ◌≤◌, ◌≡◌, Bool, true, false, cond, List, [], ltb, leb, eqb, length, take, drop, get_or}
-use Rattle.std.proofs.Math.Option.{Option, none, some}
+use Rattle.std.specs.Prelude.{ℕ, ◌-◌, ◌%◌, ◌≤◌, ◌≡◌, Bool, true, false, cond, List, [], ltb, leb, eqb, length, take, drop, get_or, None, Some, Option}
 use Rattle.digits.specs.Digits.{number}
 use Rattle.wire.specs.Reading.{tp_number_in, stream_of, version_of}
 use Rattle.receiver.specs.declared.About.{About}
 use Rattle.receiver.specs.declared.Find.{Find}
 use Rattle.receiver.specs.declared.Find.TheVariants as F
-use Rattle.receiver.specs.declared.Opened.{Opened}
-use Rattle.receiver.specs.declared.Opened.TheVariants as O
-use Rattle.receiver.specs.declared.Unfinished.{Unfinished}
-use Rattle.receiver.specs.declared.Unfinished.TheVariants as P
 use Rattle.receiver.specs.declared.Place.{Place}
 use Rattle.receiver.specs.declared.Receiver.{Receiver}
 use Rattle.receiver.specs.declared.Stamp.{Stamp}
@@ -21,7 +16,6 @@ use Rattle.receiver.specs.declared.low.Lows.{Lows}
 use Rattle.receiver.specs.declared.low.Lows.TheVariants as L
 use Rattle.receiver.specs.declared.stages.Stamps.{Stamps}
 use Rattle.receiver.specs.declared.walk.Kept.{Kept}
-use Rattle.receiver.specs.declared.walk.Kept.TheVariants.{Empty, Of}
 use Rattle.receiver.specs.declared.walk.Phase.{Phase}
 use Rattle.receiver.specs.declared.walk.Phase.TheVariants.{Lost, Head, Judged, Body}
 use Rattle.receiver.specs.declared.walk.Walk.{Walk}
@@ -36,11 +30,11 @@ use Rattle.receiver.specs.State.{frame_of, todo_of, held_of, keeps, pull_of, fro
 
 -- document 01's number for each answer; none for a packet, and where nothing is left
 abbrev pub find_number : Find → Option ℕ
-find_number F.Nothing = none
-find_number F.Refused = some 1
-find_number (F.Notice n) = some n
-find_number (F.Low c start n) = none
-find_number (F.Ordinary c n) = none
+find_number F.Nothing = None
+find_number F.Refused = Some 1
+find_number (F.Notice n) = Some n
+find_number (F.Low c start n) = None
+find_number (F.Ordinary c n) = None
 
 -- "A low-latency packet comes back as its stretch of the transport packet, an ordinary one as its stretch of the room."
 abbrev pub data_of : Find → List ℕ → List ℕ → List ℕ
@@ -65,7 +59,7 @@ abbrev pub says : Find → Option ℕ → Place → Said
 says f n p = record { find = f; number = n; bytes = []; repaired = 0; place = p }
 
 abbrev pub hands : Find → Tag → List ℕ → Said
-hands f t d = record { find = f; number = none; bytes = d; repaired = t.repaired; place = t.at }
+hands f t d = record { find = f; number = None; bytes = d; repaired = t.repaired; place = t.at }
 
 -- "the same TP and room are lent until one says none, which ends the TP"; after 1 and 6 to 9 no none follows
 abbrev pub lasts : Find → Bool
@@ -114,11 +108,11 @@ moved r stage at a m =
 
 -- 1, 6, 8: "all unchanged"
 abbrev pub unchanged : Receiver → Stamp → Find → ℕ → List ℕ → Gave
-unchanged r t f n m = moved r r.stage r.walk.at (says f (some n) (start_of t)) m
+unchanged r t f n m = moved r r.stage r.walk.at (says f (Some n) (start_of t)) m
 
 -- 7, 9: "out of step, TP dropped"
 abbrev pub gone : Receiver → Stamp → ℕ → List ℕ → Gave
-gone r t n m = leave r Fresh 0 lost [] free 0 (says (F.Notice n) (some n) (start_of t)) m
+gone r t n m = leave r Fresh 0 lost [] free 0 (says (F.Notice n) (Some n) (start_of t)) m
 
 abbrev pub holds : Held wire → ℕ
 holds free = 0
@@ -129,10 +123,10 @@ pulled r p stage at a = leave r stage at p.frame p.todo p.held (holds p.held) a 
 
 -- AMONG ORDINARY BYTES, read on up to a find; none ends the TP (reassembly gives no low-latency packet)
 abbrev pub ordinary_by : Option (Finding wire) → Receiver → Stamp → Pulled wire → Gave
-ordinary_by none r n p = pulled r p Fresh 0 (says F.Nothing none (start_of n))
-ordinary_by (some (notice k g)) r n p = pulled r p Plain p.at (says (F.Notice k) (some k) g)
-ordinary_by (some (low t d)) r n p = pulled r p Plain p.at (hands (F.Low t.content 0 (length d)) t d)
-ordinary_by (some (ordinary t d)) r n p = pulled r p Plain p.at (hands (F.Ordinary t.content (length d)) t d)
+ordinary_by None r n p = pulled r p Fresh 0 (says F.Nothing None (start_of n))
+ordinary_by (Some (notice k g)) r n p = pulled r p Plain p.at (says (F.Notice k) (Some k) g)
+ordinary_by (Some (low t d)) r n p = pulled r p Plain p.at (hands (F.Low t.content 0 (length d)) t d)
+ordinary_by (Some (ordinary t d)) r n p = pulled r p Plain p.at (hands (F.Ordinary t.content (length d)) t d)
 
 abbrev pub ordinary_call : Receiver → Stamp → Pulled wire → Gave
 ordinary_call r n p = ordinary_by p.find r n p
@@ -165,8 +159,8 @@ payload_call false r n offset tp m = due_call r n offset 4 tp m
 
 -- by the TP's Golay word: "bit 11: low-latency part present; bits 10 to 0: offset"
 abbrev pub word_call : Option ℕ → Receiver → Stamp → List ℕ → List ℕ → Gave
-word_call none r n tp m = gone r n 9 m
-word_call (some w) r n tp m = payload_call (leb 2048 w) r n (w % 2048) tp m
+word_call None r n tp m = gone r n 9 m
+word_call (Some w) r n tp m = payload_call (leb 2048 w) r n (w % 2048) tp m
 
 -- a TP is counted at its first call
 abbrev pub count_in : Stage → ℕ → ℕ
@@ -235,7 +229,7 @@ fresh_of size stream limit count = record {
   limit = limit;
   count = count;
   stage = Fresh;
-  walk = record { at = 0; phase = Lost; began = start_of (own_of 0); kept = Empty };
+  walk = record { at = 0; phase = Lost; began = start_of (own_of 0); kept = None };
 }
 
 -- "Being told of a gap puts it out of step ..: the unfinished EP and the held fragments are dropped"; it ends the TP, and "doesn't
@@ -244,35 +238,35 @@ abbrev pub gap_of : Receiver → Receiver
 gap_of r = fresh_of r.size r.stream r.limit r.count
 
 -- where what is unfinished began: the packet that is kept, else the header or EP under way
-abbrev pub under_way : Phase → Place → Unfinished
-under_way Lost g = P.Nothing
-under_way (Head n w) g = cond (eqb n 0) P.Nothing (P.From g)
-under_way (Judged h) g = P.From g
-under_way (Body h n) g = P.From g
+abbrev pub under_way : Phase → Place → Option Place
+under_way Lost g = None
+under_way (Head n w) g = cond (eqb n 0) None (Some g)
+under_way (Judged h) g = Some g
+under_way (Body h n) g = Some g
 
-abbrev pub pending_by : Kept → Phase → Place → Unfinished
-pending_by Empty p g = under_way p g
-pending_by (Of c e b n) p g = P.From b
+abbrev pub pending_by : Option Kept → Phase → Place → Option Place
+pending_by None p g = under_way p g
+pending_by (Some k) p g = Some k.began
 
-abbrev pub pending_of : Walk → Unfinished
+abbrev pub pending_of : Walk → Option Place
 pending_of w = pending_by w.kept w.phase w.began
 
 -- document 01's number for an opening's answer
-abbrev pub open_number : Opened → Option ℕ
-open_number O.Refused = some 1
-open_number (O.Ready r) = none
+abbrev pub open_number : Option Receiver → Option ℕ
+open_number None = Some 1
+open_number (Some r) = None
 
 -- an opening's answer and its number
 pub record Answered : Type 0 where
-  pub opened : Opened
+  pub opened : Option Receiver
   pub number : Option ℕ
 
-abbrev pub answered_of : Opened → Answered
+abbrev pub answered_of : Option Receiver → Answered
 answered_of q = record { opened = q; number = open_number q }
 
 -- 1: "a setting or buffer outside its limits at opening: nothing opened"
 abbrev pub outside : Answered
-outside = record { opened = O.Refused; number = some 1 }
+outside = record { opened = None; number = Some 1 }
 
 -- "Opened with TP length and stream in the sender's limits and a room for assembly, at most 131,072 bytes."
 abbrev pub opening_of : ℕ → ℕ → ℕ → Answered
@@ -280,14 +274,14 @@ opening_of size stream limit =
     cond (ltb size 16) outside
     (cond (ltb 2051 size) outside
     (cond (ltb 15 stream) outside
-    (cond (ltb 131072 limit) outside (record { opened = O.Ready (fresh_of size stream limit 0); number = none }))))
+    (cond (ltb 131072 limit) outside (record { opened = Some (fresh_of size stream limit 0); number = None }))))
 
 -- what is opened can be called
-abbrev pub AbleIf : Opened → Type 0
-AbleIf O.Refused = 0 ≤ 0
-AbleIf (O.Ready r) = Able r
+abbrev pub AbleIf : Option Receiver → Type 0
+AbleIf None = 0 ≤ 0
+AbleIf (Some r) = Able r
 
 -- THE PROMISE of an opening
-pub record OpenedAs (size stream limit : ℕ) (q : Opened) : Type 0 where
+pub record OpenedAs (size stream limit : ℕ) (q : Option Receiver) : Type 0 where
   pub same : answered_of q ≡ opening_of size stream limit
   pub able : AbleIf q

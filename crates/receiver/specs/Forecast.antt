@@ -1,8 +1,7 @@
 -- How a TP's ordinary bytes are set about: the forecast against the offset (document 01, "Receiver", and 10, 12, 13; R-6).
 -- The offset is one number: how many ordinary bytes stand before the first EP that begins here, all of them if none does.
 -- Assumes nothing.
-use Rattle.std.specs.Prelude.{ℕ, suc, ◌+◌, ◌-◌, Bool, true, false, cond, List, [], ◌∷◌, ◌++◌, eqb, leb, ltb, length, drop}
-use Rattle.std.proofs.Math.Option.{Option, none, some}
+use Rattle.std.specs.Prelude.{ℕ, suc, ◌+◌, ◌-◌, Bool, true, false, cond, List, [], ◌∷◌, ◌++◌, eqb, leb, ltb, length, drop, None, Option, Some}
 use Rattle.receiver.specs.Frame.{Code, Frame, lost, idle, head, body, Event, lose, gap, Out, step, after, events}
 
 pub data Phase : Type 0 where
@@ -16,20 +15,20 @@ module _ (C : Code) where
   phase (body h k) = inside
 
   abbrev pub look : Phase → Option ℕ → Option ℕ
-  look off r = none
-  look between r = some 0
+  look off r = None
+  look between r = Some 0
   look inside r = r
 
   abbrev pub later : Option ℕ → Option ℕ
-  later none = none
-  later (some n) = some (suc n)
+  later None = None
+  later (Some n) = Some (suc n)
 
   -- "In step, the unfinished EP foretells where the next one begins, or that none begins here (also if it ends with the
   -- payload). Between two EPs the next begins right after the low-latency part, or not here if that part ends at P. A cut
   -- header is first read on, for this forecast only; if it is still not whole, none begins here."
   -- None where the header being read turns out beyond repair.
   abbrev pub foretold : Frame C → List C.B → Option ℕ
-  foretold f [] = look (phase f) (some 0)
+  foretold f [] = look (phase f) (Some 0)
   foretold f (b ∷ bs) = look (phase f) (later (foretold (step C f b).0 bs))
 
   -- what is told first, the frame, and how many bytes are passed over
@@ -61,8 +60,8 @@ module _ (C : Code) where
 
   -- 12: "if the header began in an earlier TP, reading resumes as in 13", which isn't also given
   abbrev pub judge : Option ℕ → C.S → Frame C → ℕ → List C.B → Start
-  judge none p f n bs = resume (lose 12 (since p f) ∷ []) n bs
-  judge (some m) p f n bs = agree (eqb m n) p f n bs
+  judge None p f n bs = resume (lose 12 (since p f) ∷ []) n bs
+  judge (Some m) p f n bs = agree (eqb m n) p f n bs
 
   abbrev pub set_out : Phase → C.S → Frame C → ℕ → List C.B → Start
   set_out off p f n bs = resume [] n bs

@@ -1,7 +1,6 @@
 -- Reading ordinary bytes one at a time, in or out of step (document 01, "Receiver").
 -- `Code` is all that reading needs to know of a byte and of a header. Assumes nothing.
-use Rattle.std.specs.Prelude.{ℕ, zero, suc, ◌≡◌, List, [], ◌∷◌, ◌++◌}
-use Rattle.std.proofs.Math.Option.{Option, none, some}
+use Rattle.std.specs.Prelude.{ℕ, zero, suc, ◌≡◌, List, [], ◌∷◌, ◌++◌, None, Option, Some}
 use Rattle.receiver.specs.declared.kind.Kind.{Kind}
 
 -- the type of a byte as it is read, of what is kept of it, of a place, of a header, and of what a packet is known by; a byte's
@@ -59,8 +58,8 @@ module _ (C : Code) where
 
   -- a header's six bytes are there. 12: ordinary EP header beyond repair: out of step
   abbrev pub whole : C.S → Option C.H → Out
-  whole p none = (lost, lose 12 p ∷ [])
-  whole p (some h) = (within h (C.size h), opened h ∷ entered h ∷ ending h (C.size h))
+  whole p None = (lost, lose 12 p ∷ [])
+  whole p (Some h) = (within h (C.size h), opened h ∷ entered h ∷ ending h (C.size h))
 
   -- "An EP header may be cut by a TP end, even several times": a frame outlives the bytes of a TP
   abbrev pub step : Frame → C.B → Out

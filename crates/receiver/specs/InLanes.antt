@@ -1,5 +1,5 @@
 -- What the private functions of src/lane.rt promise one another. Assumes nothing.
-use Rattle.std.specs.Prelude.{ℕ, ◌+◌, ◌-◌, ◌≤◌, ◌<◌, min, ◌≡◌, Bool, true, false, cond, List, ltb, length, take, drop}
+use Rattle.std.specs.Prelude.{ℕ, ◌+◌, ◌-◌, ◌≤◌, ◌<◌, min, ◌≡◌, Bool, true, false, cond, List, ltb, length, take, drop, Ok, None}
 use Rattle.queue.specs.Ring.{copied}
 use Rattle.wire.specs.declared.Header.{Header}
 use Rattle.receiver.specs.declared.Place.{Place}
@@ -11,8 +11,6 @@ use Rattle.receiver.specs.declared.lane.Lane.{Lane}
 use Rattle.receiver.specs.declared.lane.Lane.TheVariants as L
 use Rattle.receiver.specs.declared.lane.Met.{Met}
 use Rattle.receiver.specs.declared.lane.Met.TheVariants as M
-use Rattle.receiver.specs.declared.outset.Offset.TheVariants.{Behind}
-use Rattle.receiver.specs.declared.walk.Kept.TheVariants.{Empty}
 use Rattle.receiver.specs.declared.walk.Walk.{Walk}
 use Rattle.receiver.specs.Call.{Gave}
 use Rattle.receiver.specs.InWalk.{Carries}
@@ -31,10 +29,6 @@ StandsAs cap L.Lost w = StandsFor cap L.Lost w
 StandsAs cap L.Idle w = StandsFor cap L.Idle w
 StandsAs cap (L.Cut p n x) w = StandsFor cap (L.Cut p n x) w
 StandsAs cap (L.Busy p left len c e) w = StandsFor cap (L.Busy p left len c e) w
-
-abbrev pub SameIf : Bool → Place → Place → Type 0
-SameIf false a b = 0 ≤ 0
-SameIf true a b = a ≡ b
 
 -- a complete EP of at most so many data
 abbrev pub FitsIf : Bool → Header → ℕ → Type 0
@@ -63,11 +57,11 @@ plain_call b k t w tp m = call_by t (record { size = b.size; stream = b.stream; 
 -- behind the header of a complete EP, with nothing kept: from wherever a turn leads there
 abbrev pub EntersAs : Met → Header → Place → ℕ → List ℕ → List ℕ → List ℕ → Type 0
 EntersAs q h g i tp m m' =
-    (b : Receiver) (k : ℕ) (t : Stamp) (w : Walk) → Lends b i tp m → Carries (length m) t w tp m (opened_of i h g Empty (length m)) m
+    (b : Receiver) (k : ℕ) (t : Stamp) (w : Walk) → Lends b i tp m → Carries (length m) t w tp m (opened_of i h g None (length m)) m
     → MetAs q b k t (plain_call b k t w tp m) tp m m'
 
 -- in a lane before ordinary bytes, n of which stand before the first EP that begins
 abbrev pub SetAs : Met → Lane → ℕ → ℕ → List ℕ → List ℕ → List ℕ → Type 0
 SetAs q l n at tp m m' =
-    (b : Receiver) (k : ℕ) (t : Stamp) (o : ℕ) → Lends b at tp m → 4 ≤ at → o < 2048 → place_of o at (length tp) ≡ Behind n
+    (b : Receiver) (k : ℕ) (t : Stamp) (o : ℕ) → Lends b at tp m → 4 ≤ at → o < 2048 → place_of o at (length tp) ≡ Ok n
     → MetAs q b k t (call_by t (in_lane b k l (Due o) at) tp m) tp m m'

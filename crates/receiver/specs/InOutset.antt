@@ -1,6 +1,5 @@
 -- What the private functions of src/outset.rt and src/stages.rt promise one another about setting out. Assumes nothing.
-use Rattle.std.specs.Prelude.{ℕ, ◌+◌, ◌-◌, min, ◌≡◌, cond, List, ltb, eqb, length, take, drop}
-use Rattle.std.proofs.Math.Option.{Option, none, some}
+use Rattle.std.specs.Prelude.{ℕ, ◌+◌, ◌-◌, min, ◌≡◌, cond, List, ltb, eqb, length, take, drop, Err, Ok, Result, None, Option, Some}
 use Rattle.digits.specs.Digits.{number}
 use Rattle.wire.specs.declared.Header.{Header}
 use Rattle.wire.specs.Reading.{header_in}
@@ -8,11 +7,8 @@ use Rattle.receiver.specs.declared.Place.{Place}
 use Rattle.receiver.specs.declared.Stamp.{Stamp}
 use Rattle.receiver.specs.declared.outset.Fore.{Fore}
 use Rattle.receiver.specs.declared.outset.Fore.TheVariants.{Bad, At}
-use Rattle.receiver.specs.declared.outset.Start.{Start}
-use Rattle.receiver.specs.declared.outset.Start.TheVariants.{Reads, Loses}
 use Rattle.receiver.specs.declared.walk.Answer.{Answer}
 use Rattle.receiver.specs.declared.walk.Gain.TheVariants.{Notice}
-use Rattle.receiver.specs.declared.walk.Kept.TheVariants.{Empty}
 use Rattle.receiver.specs.declared.walk.Walk.{Walk}
 use Rattle.receiver.specs.Forecast as F
 use Rattle.receiver.specs.Low.{wire}
@@ -24,8 +20,8 @@ use Rattle.receiver.specs.InWalk.{shown}
 
 -- the forecast of a header that is read on for it only
 abbrev pub behind_of : Option Header → ℕ → ℕ → Fore
-behind_of none n rest = Bad
-behind_of (some h) n rest = At (n + min h.size (rest - n))
+behind_of None n rest = Bad
+behind_of (Some h) n rest = At (n + min h.size (rest - n))
 
 unfoldable pub ahead_of : List ℕ → ℕ → ℕ → ℕ → Fore
 ahead_of tp at n w =
@@ -39,13 +35,13 @@ set_out cap t w n tp m = from cap t (F.start wire (start_of t) (frame_of w.began
 
 -- out of step by this notice of this place, and on from there
 abbrev pub lose_of : ℕ → ℕ → ℕ → Place → Answer
-lose_of at len n g = record { walk = record { at = at; phase = upon_of at len; began = g; kept = Empty }; gain = Notice n }
+lose_of at len n g = record { walk = record { at = at; phase = upon_of at len; began = g; kept = None }; gain = Notice n }
 
 -- reading on with x answers the call that sets about the bytes, whatever room is lent
 pub record ReadsOn (w : Walk) (n : ℕ) (tp : List ℕ) (x : Walk) : Type 0 where
   pub same : (t : Stamp) (m : List ℕ) → pull_of (length m) t x tp m ≡ set_out (length m) t w n tp m
   pub sound : (cap : ℕ) → Sound cap (length tp) w → Sound cap (length tp) x
 
-unfoldable pub SetsOut : Walk → ℕ → List ℕ → Start → Type 0
-SetsOut w n tp (Reads x) = ReadsOn w n tp x
-SetsOut w n tp (Loses i) = (t : Stamp) (m : List ℕ) → shown (lose_of (w.at + n) (length tp) i (lost_at i t w.began)) m ≡ set_out (length m) t w n tp m
+unfoldable pub SetsOut : Walk → ℕ → List ℕ → Result Walk ℕ → Type 0
+SetsOut w n tp (Ok x) = ReadsOn w n tp x
+SetsOut w n tp (Err i) = (t : Stamp) (m : List ℕ) → shown (lose_of (w.at + n) (length tp) i (lost_at i t w.began)) m ≡ set_out (length m) t w n tp m

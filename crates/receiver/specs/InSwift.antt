@@ -1,6 +1,6 @@
 -- What the private functions of src/swift.rt promise one another: a call on words does what the call by value does, or leaves
 -- it to that. Assumes nothing.
-use Rattle.std.specs.Prelude.{ℕ, ◌≤◌, ◌<◌, ◌≡◌, Bool, true, false, cond, List, eqb, length}
+use Rattle.std.specs.Prelude.{ℕ, ◌≤◌, ◌<◌, ◌≡◌, Bool, true, false, cond, List, eqb, length, None, Ok, Option, Some}
 use Rattle.wire.specs.declared.Header.{Header}
 use Rattle.receiver.specs.declared.About.{About}
 use Rattle.receiver.specs.declared.Find.{Find}
@@ -18,16 +18,11 @@ use Rattle.receiver.specs.declared.lane.Lane.{Lane}
 use Rattle.receiver.specs.declared.lane.Lane.TheVariants as L
 use Rattle.receiver.specs.declared.lane.Met.{Met}
 use Rattle.receiver.specs.declared.lane.Met.TheVariants as M
-use Rattle.receiver.specs.declared.outset.Offset.TheVariants as O
-use Rattle.receiver.specs.declared.swift.Begun.{Begun}
-use Rattle.receiver.specs.declared.swift.Begun.TheVariants as B
 use Rattle.receiver.specs.declared.swift.Part.{Part}
 use Rattle.receiver.specs.declared.swift.Part.TheVariants as P
 use Rattle.receiver.specs.declared.swift.Spot.{Spot}
 use Rattle.receiver.specs.declared.swift.Spot.TheVariants as T
 use Rattle.receiver.specs.declared.swift.Swift.{Swift}
-use Rattle.receiver.specs.declared.swift.Swift.TheVariants as S
-use Rattle.receiver.specs.declared.walk.Kept.TheVariants.{Empty, Of}
 use Rattle.receiver.specs.declared.walk.Phase.TheVariants.{Body}
 use Rattle.receiver.specs.declared.walk.Walk.{Walk}
 use Rattle.receiver.specs.Call.{Gave, Gives, call_of, count_in}
@@ -37,7 +32,7 @@ use Rattle.receiver.specs.Lanes.{MetAs, Tidy, call_by, ends_in, in_lane, step_to
 use Rattle.receiver.specs.Outset.{place_of}
 use Rattle.receiver.specs.Pieces.{none_of, top_of}
 use Rattle.receiver.specs.Place.{own_of, start_of}
-use Rattle.receiver.specs.State.{Able}
+use Rattle.receiver.specs.State.{Able, kept_by}
 use Rattle.receiver.specs.Words.{Bytes, words_of}
 
 -- a receiver, a TP and a room that a call may read
@@ -49,17 +44,13 @@ pub record Lent (r : Receiver) (tp : List ℕ) : Type 0 where
 pub record Busy (r : Receiver) (h : Header) (left c e : ℕ) (g : Place) (n : ℕ) : Type 0 where
   pub stage : r.stage ≡ Fresh
   pub phase : r.walk.phase ≡ Body h left
-  pub kept : r.walk.kept ≡ Of c e g n
+  pub kept : r.walk.kept ≡ kept_by c e g n
 
 -- n bytes stand before the first EP that begins in a TP of this stream without low-latency part
 pub record Behind (stream : ℕ) (tp : List ℕ) (n : ℕ) : Type 0 where
   pub offset : ℕ
   pub top : top_of stream tp ≡ Says false offset
-  pub place : place_of offset 4 (length tp) ≡ O.Behind n
-
-abbrev pub BehindAs : Begun → ℕ → List ℕ → Type 0
-BehindAs B.Other stream tp = 0 ≤ 0
-BehindAs (B.Behind n) stream tp = Behind stream tp n
+  pub place : place_of offset 4 (length tp) ≡ Ok n
 
 -- whether an EP's end hands out what is kept
 abbrev pub hands_by : Kind → Bool
@@ -78,7 +69,7 @@ abbrev pub made_of : Receiver → ℕ → Stage → Walk → Receiver
 made_of r count stage walk = record { size = r.size; stream = r.stream; limit = r.limit; count = count; stage = stage; walk = walk }
 
 abbrev pub between_at : ℕ → Walk
-between_at at = between at (start_of (own_of 0)) Empty
+between_at at = between at (start_of (own_of 0)) None
 
 -- a call that is done: a step that it promises, whose find and words these are
 pub record Done (r : Receiver) (tp m₀ : List ℕ) (f : Find) (a : About) (w m : List ℕ) : Type 0 where
@@ -89,10 +80,13 @@ pub record Done (r : Receiver) (tp m₀ : List ℕ) (f : Find) (a : About) (w m 
   pub find : f ≡ step.find
   pub about : a ≡ step.about
 
+abbrev pub told : Find → About → Option Swift
+told f a = Some (record { find = f; about = a })
+
 -- or all is left as it was
-abbrev pub SwiftAs : Swift → Receiver → List ℕ → List ℕ → List ℕ → List ℕ → List ℕ → Type 0
-SwiftAs S.Other r w₀ tp m₀ w m = (w ≡ w₀) × (m ≡ m₀)
-SwiftAs (S.Gives f a) r w₀ tp m₀ w m = Done r tp m₀ f a w m
+abbrev pub SwiftAs : Option Swift → Receiver → List ℕ → List ℕ → List ℕ → List ℕ → List ℕ → Type 0
+SwiftAs None r w₀ tp m₀ w m = (w ≡ w₀) × (m ≡ m₀)
+SwiftAs (Some q) r w₀ tp m₀ w m = Done r tp m₀ q.find q.about w m
 
 -- ---- in a lane
 
@@ -153,7 +147,7 @@ LowPartAs q r k l o at tp w₀ w =
     (m : List ℕ) → length m ≡ r.limit → call_by (own_of k) (in_lane r k l (Low o) at) tp m ≡ call_of r tp m → PartBy q r k l tp m w₀ w
 
 -- the call is done or left as it was, whatever room is lent
-abbrev pub ToldAs : Swift → Receiver → List ℕ → List ℕ → List ℕ → Type 0
+abbrev pub ToldAs : Option Swift → Receiver → List ℕ → List ℕ → List ℕ → Type 0
 ToldAs q r tp w₀ w = (m : List ℕ) → length m ≡ r.limit → SwiftAs q r w₀ tp m w m
 
 -- a TP and a room of b's settings
@@ -179,6 +173,6 @@ TidyMet cap (M.Reads i) = 0 ≤ 0
 TidyMet cap (M.Gives c e p n end) = 0 ≤ 0
 
 -- behind it, whatever TP of this length and room it was met in
-abbrev pub BehindMet : Swift → Met → Receiver → ℕ → ℕ → List ℕ → List ℕ → Type 0
+abbrev pub BehindMet : Option Swift → Met → Receiver → ℕ → ℕ → List ℕ → List ℕ → Type 0
 BehindMet q x r k len w₀ w =
     (tp m₀ m : List ℕ) → len ≡ length tp → MetAs x r k (own_of k) (call_of r tp m₀) tp m₀ m → SwiftAs q r w₀ tp m₀ w m

@@ -4,11 +4,10 @@ use Rattle.wire.specs.declared.Header.{Header}
 use Rattle.receiver.specs.declared.Place.{Place}
 use Rattle.receiver.specs.declared.track.Sight.{Sight}
 use Rattle.receiver.specs.declared.track.Track.{Track}
-use Rattle.receiver.specs.declared.walk.Kept.TheVariants.{Of}
 use Rattle.receiver.specs.declared.walk.Phase.{Phase}
 use Rattle.receiver.specs.declared.walk.Walk.{Walk}
 use Rattle.receiver.specs.InLanes.{StandsAs}
-use Rattle.receiver.specs.State.{Fine, Settled}
+use Rattle.receiver.specs.State.{Fine, Settled, kept_by}
 use Rattle.receiver.specs.Tracks.{OwnIn, lane_in}
 use Rattle.receiver.specs.Turns.{walk_at}
 
@@ -22,7 +21,7 @@ pub record UnkeptAs (t : Track) (w : Walk) : Type 0 where
 pub record KeptAs (t : Track) (p : Phase) (g : Place) (len cap : ℕ) : Type 0 where
   pub sort : t.sort ≤ 4
   pub flips : t.flips < 256
-  pub lane : (c e : ℕ) (b : Place) → Settled p → Fine cap p (Of c e b len) → OwnIn g p (Of c e b len) → StandsAs cap (lane_in t) (walk_at 0 p g (Of c e b len))
+  pub lane : (c e : ℕ) (b : Place) → Settled p → Fine cap p (kept_by c e b len) → OwnIn g p (kept_by c e b len) → StandsAs cap (lane_in t) (walk_at 0 p g (kept_by c e b len))
 
 -- an EP seen there, by its header
 abbrev pub sight_of : ℕ → ℕ → Header → Sight

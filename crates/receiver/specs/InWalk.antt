@@ -1,7 +1,6 @@
 -- What the private functions of src/walk.rt promise one another: a turn carries the call on that reading asks for, or ends it.
 -- Assumes nothing.
-use Rattle.std.specs.Prelude.{ℕ, ◌+◌, ◌-◌, ◌≤◌, ◌<◌, min, ◌≡◌, List, length, take, drop}
-use Rattle.std.proofs.Math.Option.{Option, none, some}
+use Rattle.std.specs.Prelude.{ℕ, ◌+◌, ◌-◌, ◌≤◌, ◌<◌, min, ◌≡◌, List, length, take, drop, None, Option, Some}
 use Rattle.std.proofs.Math.Seq.{paste}
 use Rattle.receiver.specs.declared.Place.{Place}
 use Rattle.receiver.specs.declared.Stamp.{Stamp}
@@ -9,7 +8,6 @@ use Rattle.receiver.specs.declared.walk.Answer.{Answer}
 use Rattle.receiver.specs.declared.walk.Gain.{Gain}
 use Rattle.receiver.specs.declared.walk.Gain.TheVariants.{Nothing, Notice, Packet}
 use Rattle.receiver.specs.declared.walk.Kept.{Kept}
-use Rattle.receiver.specs.declared.walk.Kept.TheVariants.{Empty, Of}
 use Rattle.receiver.specs.declared.walk.Phase.{Phase}
 use Rattle.receiver.specs.declared.walk.Phase.TheVariants.{Lost, Head, Judged, Body}
 use Rattle.receiver.specs.declared.walk.Turn.{Turn}
@@ -21,11 +19,11 @@ use Rattle.receiver.specs.Pull.{Pulled}
 use Rattle.receiver.specs.State.{frame_of, todo_of, held_of, pull_of, Sound}
 use Rattle.receiver.specs.Turns.{toil}
 
-abbrev pub pasted : Kept → List ℕ → List ℕ → ℕ → List ℕ
-pasted Empty m ds n = m
-pasted (Of c e g k) m ds n = paste m k ds n
+abbrev pub pasted : Option Kept → List ℕ → List ℕ → ℕ → List ℕ
+pasted None m ds n = m
+pasted (Some q) m ds n = paste m q.len ds n
 
-abbrev pub room_by : Phase → ℕ → Kept → List ℕ → List ℕ → List ℕ
+abbrev pub room_by : Phase → ℕ → Option Kept → List ℕ → List ℕ → List ℕ
 room_by Lost at k tp m = m
 room_by (Head n x) at k tp m = m
 room_by (Judged h) at k tp m = m
@@ -37,9 +35,9 @@ room_of w tp m = room_by w.phase w.at w.kept tp m
 
 -- a notice is of the EP under way, which began there
 abbrev pub find_of : Gain → Place → List ℕ → Option (Finding wire)
-find_of Nothing b m = none
-find_of (Notice n) b m = some (notice n b)
-find_of (Packet c e g n) b m = some (ordinary (tag_of c e g) (take n m))
+find_of Nothing b m = None
+find_of (Notice n) b m = Some (notice n b)
+find_of (Packet c e g n) b m = Some (ordinary (tag_of c e g) (take n m))
 
 -- the call that was answered
 unfoldable pub shown : Answer → List ℕ → Pulled wire

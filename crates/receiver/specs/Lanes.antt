@@ -1,6 +1,6 @@
 -- THE LANES OF A RECEIVER: what it stands in between two TPs where no series is kept and nothing is to be judged, and what a call comes to
 -- from there. A loop over TPs carries a lane in the place of the receiver. Assumes nothing.
-use Rattle.std.specs.Prelude.{ℕ, ◌+◌, ◌≤◌, ◌<◌, ◌^◌, ◌≡◌, cond, false, true, List, eqb, length}
+use Rattle.std.specs.Prelude.{ℕ, ◌+◌, ◌≤◌, ◌<◌, ◌^◌, ◌≡◌, cond, false, true, List, eqb, length, None}
 use Rattle.wire.specs.declared.Header.{Header}
 use Rattle.receiver.specs.declared.About.{About}
 use Rattle.receiver.specs.declared.Find.{Find}
@@ -19,13 +19,13 @@ use Rattle.receiver.specs.declared.lane.Met.{Met}
 use Rattle.receiver.specs.declared.lane.Met.TheVariants as M
 use Rattle.receiver.specs.declared.low.Lows.{Lows}
 use Rattle.receiver.specs.declared.low.Lows.TheVariants as W
-use Rattle.receiver.specs.declared.walk.Kept.TheVariants.{Empty, Of}
 use Rattle.receiver.specs.declared.walk.Phase.TheVariants.{Lost, Head, Body}
 use Rattle.receiver.specs.declared.walk.Walk.{Walk}
 use Rattle.receiver.specs.Call.{Gave, Gives, call_as, always, lasts}
 use Rattle.receiver.specs.Pieces.{none_of, top_of}
 use Rattle.receiver.specs.Place.{place_at, start_of, count_of}
 use Rattle.receiver.specs.Turns.{walk_at}
+use Rattle.receiver.specs.State.{kept_by}
 
 -- the header of a complete EP
 abbrev pub complete_of : ℕ → ℕ → ℕ → Header
@@ -34,11 +34,11 @@ complete_of c size e = record { content = c; fragment = 0; size = size; flips = 
 -- the walk of a lane: out of step; between two EPs; in a header; in the data of a complete EP, which are kept. Where none is under way, g
 -- stands for where one began, and nobody reads it
 abbrev pub walk_in : Place → Lane → ℕ → Walk
-walk_in g L.Other at = walk_at at Lost g Empty
-walk_in g L.Lost at = walk_at at Lost g Empty
-walk_in g L.Idle at = walk_at at (Head 0 0) g Empty
-walk_in g (L.Cut p n w) at = walk_at at (Head n w) p Empty
-walk_in g (L.Busy p left len c e) at = walk_at at (Body (complete_of c (len + left) e) left) p (Of c e p len)
+walk_in g L.Other at = walk_at at Lost g None
+walk_in g L.Lost at = walk_at at Lost g None
+walk_in g L.Idle at = walk_at at (Head 0 0) g None
+walk_in g (L.Cut p n w) at = walk_at at (Head n w) p None
+walk_in g (L.Busy p left len c e) at = walk_at at (Body (complete_of c (len + left) e) left) p (kept_by c e p len)
 
 -- the receiver of b's settings in a lane, so many TPs counted
 abbrev pub in_lane : Receiver → ℕ → Lane → Stage → ℕ → Receiver

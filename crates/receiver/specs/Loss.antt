@@ -1,7 +1,6 @@
 -- "The held series is never older than the last loss of step." (document 02, R-4): the statement, of each loss of step among any
 -- number of TPs and told gaps, so of the last. Assumes nothing.
-use Rattle.std.specs.Prelude.{ℕ, ◌%◌, ◌≤◌, ◌<◌, ◌≡◌, ◌⊎◌, List, [], ◌∷◌, ◌++◌, take, drop}
-use Rattle.std.proofs.Math.Option.{Option, none, some}
+use Rattle.std.specs.Prelude.{ℕ, ◌%◌, ◌≤◌, ◌<◌, ◌≡◌, ◌⊎◌, List, [], ◌∷◌, ◌++◌, take, drop, None, Option, Some}
 use Rattle.digits.specs.Digits.{number}
 use Rattle.wire.specs.Reading.{tp_number_in}
 use Rattle.receiver.specs.declared.Place.{Place}
@@ -32,8 +31,8 @@ count_all s n (x ∷ xs) = count_all s (count_after s n x) xs
 
 -- "bits 10 to 0: offset": the payload place at which reading resumes; behind a told gap any will do
 abbrev pub offset_by : Option ℕ → ℕ
-offset_by none = 0
-offset_by (some w) = w % 2048
+offset_by None = 0
+offset_by (Some w) = w % 2048
 
 abbrev pub offset_of : Input → ℕ
 offset_of (tp_in tp) = offset_by (tp_number_in (number 0 (take 3 (drop 1 tp))))

@@ -1,7 +1,6 @@
 -- The low-latency part, read as a list of bytes (document 01, "Layouts", "Receiver", and 11, 16; R-2).
 -- Assumes nothing.
-use Rattle.std.specs.Prelude.{ℕ, zero, suc, ◌+◌, min, refl, true, false, cond, List, [], ◌∷◌, ◌++◌, ltb, length, take, drop, get_or}
-use Rattle.std.proofs.Math.Option.{Option, none, some}
+use Rattle.std.specs.Prelude.{ℕ, zero, suc, ◌+◌, min, refl, true, false, cond, List, [], ◌∷◌, ◌++◌, ltb, length, take, drop, get_or, Bool, None, Some, Option}
 use Rattle.golay.specs.declared.End.{End}
 use Rattle.golay.specs.declared.End.TheVariants.{Zeros, Ones, Neither}
 use Rattle.golay.specs.Answers.{end_of, end_flips}
@@ -9,8 +8,6 @@ use Rattle.wire.specs.declared.Header.{Header}
 use Rattle.wire.specs.Reading.{header_of}
 use Rattle.receiver.specs.declared.kind.Kind.{Kind}
 use Rattle.receiver.specs.declared.kind.Kind.TheVariants as K
-use Rattle.receiver.specs.declared.low.Llep.{Llep}
-use Rattle.receiver.specs.declared.low.Llep.TheVariants.{Broken, Whole}
 use Rattle.receiver.specs.declared.Stamp.{Stamp}
 use Rattle.receiver.specs.declared.Place.{Place}
 use Rattle.receiver.specs.Kind.{kind_of}
@@ -47,8 +44,8 @@ abbrev pub join_of : Tag → Ep → Tag
 join_of t h = tag_of t.content (total_of t.repaired h.header.flips) t.at
 
 abbrev pub ep_if : Place → Option Header → Option Ep
-ep_if p none = none
-ep_if p (some h) = some (ep_at p h)
+ep_if p None = None
+ep_if p (Some h) = Some (ep_at p h)
 
 -- the header code of the wire, over bytes with their places, of which plain ones are kept
 abbrev pub wire : Code
@@ -73,30 +70,30 @@ wire = record {
 }
 
 -- "each LLEP followed by its end byte, FF if another follows, else 00"
-abbrev pub ended : End → Header → Llep
-ended Zeros h = Whole h false
-ended Ones h = Whole h true
-ended Neither h = Broken
+abbrev pub ended : End → Header → Option (Header × Bool)
+ended Zeros h = Some (h, false)
+ended Ones h = Some (h, true)
+ended Neither h = None
 
 -- the header, with the flips of this end byte counted in
 abbrev pub counting : ℕ → Header → Header
 counting b h = record { content = h.content; fragment = h.fragment; size = h.size; flips = h.flips + end_flips b }
 
-abbrev pub ends_by : ℕ → Header → Llep
+abbrev pub ends_by : ℕ → Header → Option (Header × Bool)
 ends_by b h = ended (end_of b) (counting b h)
 
-unfoldable pub sized : Header → List ℕ → Llep
-sized h bs = cond (ltb (length bs) (7 + h.size)) Broken (ends_by (get_or bs (6 + h.size) 0) h)
+unfoldable pub sized : Header → List ℕ → Option (Header × Bool)
+sized h bs = cond (ltb (length bs) (7 + h.size)) None (ends_by (get_or bs (6 + h.size) 0) h)
 
-abbrev pub begins : Option Header → List ℕ → Llep
-begins none bs = Broken
-begins (some h) bs = sized h bs
+abbrev pub begins : Option Header → List ℕ → Option (Header × Bool)
+begins None bs = None
+begins (Some h) bs = sized h bs
 
 -- the LLEP that bytes begin with. 11: "fewer than 7 bytes left, header beyond repair, it and its end byte pass P, or end
 -- byte beyond repair"
-unfoldable pub llep : List ℕ → Llep
+unfoldable pub llep : List ℕ → Option (Header × Bool)
 unfolding sized
-llep bs = cond (ltb (length bs) 7) Broken (begins (header_of (take 6 bs)) bs)
+llep bs = cond (ltb (length bs) 7) None (begins (header_of (take 6 bs)) bs)
 
 -- 16: "an LLEP with a fragment flag not 0 (fill excepted)", or with content 7 to 15; fill is passed over
 abbrev pub given : Kind → Place → Header → List ℕ → List (Finding wire)
@@ -117,15 +114,15 @@ pub record Part : Type 0 where
 abbrev pub ahead : List (Finding wire) → Part → Part
 ahead fs p = record { finds = fs ++ p.finds; behind = p.behind; from = p.from }
 
-abbrev pub walked : Llep → Stamp → ℕ → List ℕ → (ℕ → List ℕ → Part) → Part
-walked Broken t i bs on = record { finds = []; behind = none; from = i }
-walked (Whole h more) t i bs on =
+abbrev pub walked : Option (Header × Bool) → Stamp → ℕ → List ℕ → (ℕ → List ℕ → Part) → Part
+walked None t i bs on = record { finds = []; behind = None; from = i }
+walked (Some (h, more)) t i bs on =
     ahead (given (kind_of h) (place_at t i) h bs)
-    (cond more (on (i + 7 + h.size) (drop (7 + h.size) bs)) (record { finds = []; behind = some (drop (7 + h.size) bs); from = i + 7 + h.size }))
+    (cond more (on (i + 7 + h.size) (drop (7 + h.size) bs)) (record { finds = []; behind = Some (drop (7 + h.size) bs); from = i + 7 + h.size }))
 
 -- "The walk over the low-latency part stops at the first 00 end byte or the first broken LLEP."
 unfoldable pub walk : ℕ → Stamp → ℕ → List ℕ → Part
-walk zero t i bs = record { finds = []; behind = none; from = i }
+walk zero t i bs = record { finds = []; behind = None; from = i }
 walk (suc k) t i bs = walked (llep bs) t i bs (λ j rest. walk k t j rest)
 
 -- no LLEP is shorter than its end byte, so a walk takes no more turns than there are bytes

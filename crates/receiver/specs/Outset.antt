@@ -1,15 +1,10 @@
 -- HOW A TP'S ORDINARY BYTES ARE SET ABOUT, by value: 10, 21; the forecast against the offset, 12 and 13 (`Forecast`).
 -- Assumes nothing.
-use Rattle.std.specs.Prelude.{ℕ, ◌+◌, ◌-◌, cond, List, ltb, leb, eqb, length, drop}
-use Rattle.std.proofs.Math.Option.{Option, none, some}
+use Rattle.std.specs.Prelude.{ℕ, ◌+◌, ◌-◌, cond, List, ltb, leb, eqb, length, drop, Err, Ok, Result, None, Option, Some}
 use Rattle.receiver.specs.declared.outset.Fore.{Fore}
 use Rattle.receiver.specs.declared.outset.Fore.TheVariants.{Off, Bad, At}
 use Rattle.receiver.specs.declared.Place.{Place}
 use Rattle.receiver.specs.declared.Stamp.{Stamp}
-use Rattle.receiver.specs.declared.outset.Offset.{Offset}
-use Rattle.receiver.specs.declared.outset.Offset.TheVariants.{Behind, Outside}
-use Rattle.receiver.specs.declared.outset.Start.{Start}
-use Rattle.receiver.specs.declared.outset.Start.TheVariants.{Reads, Loses}
 use Rattle.receiver.specs.declared.walk.Phase.{Phase}
 use Rattle.receiver.specs.declared.walk.Phase.TheVariants.{Lost, Head}
 use Rattle.receiver.specs.declared.walk.Walk.{Walk}
@@ -19,16 +14,16 @@ use Rattle.receiver.specs.Low.{wire}
 use Rattle.receiver.specs.State.{frame_of}
 
 -- 10: "an offset that is not 2047 and is at least P"; 21: one "before the low-latency part's end". The payload begins at place 4
-unfoldable pub place_of : ℕ → ℕ → ℕ → Offset
+unfoldable pub place_of : ℕ → ℕ → ℕ → Result ℕ ℕ
 place_of offset at len =
-    cond (eqb offset 2047) (Behind (len - at))
-    (cond (leb len (offset + 4)) (Outside 10)
-    (cond (ltb (offset + 4) at) (Outside 21) (Behind (offset + 4 - at))))
+    cond (eqb offset 2047) (Ok (len - at))
+    (cond (leb len (offset + 4)) (Err 10)
+    (cond (ltb (offset + 4) at) (Err 21) (Ok (offset + 4 - at))))
 
 -- the forecast; out of step there is none
 abbrev pub foretells : Option ℕ → Fore
-foretells none = Bad
-foretells (some n) = At n
+foretells None = Bad
+foretells (Some n) = At n
 
 abbrev pub seen : F.Phase → Option ℕ → Fore
 seen F.off o = Off
@@ -51,10 +46,10 @@ unfoldable pub upon_of : ℕ → ℕ → Phase
 upon_of at len = cond (ltb at len) (Head 0 0) Lost
 
 -- what the forecast decides, where n bytes stand before the first EP that begins here. 12, 13: out of step
-abbrev pub out_by : Fore → Walk → ℕ → ℕ → Start
-out_by Off w n len = Reads (record { at = w.at + n; phase = upon_of (w.at + n) len; began = w.began; kept = w.kept })
-out_by Bad w n len = Loses 12
-out_by (At k) w n len = cond (eqb k n) (Reads w) (Loses 13)
+abbrev pub out_by : Fore → Walk → ℕ → ℕ → Result Walk ℕ
+out_by Off w n len = Ok (record { at = w.at + n; phase = upon_of (w.at + n) len; began = w.began; kept = w.kept })
+out_by Bad w n len = Err 12
+out_by (At k) w n len = cond (eqb k n) (Ok w) (Err 13)
 
-unfoldable pub set_out_of : Walk → ℕ → List ℕ → Start
+unfoldable pub set_out_of : Walk → ℕ → List ℕ → Result Walk ℕ
 set_out_of w n tp = out_by (fore_of w.phase (drop w.at tp)) w n (length tp)

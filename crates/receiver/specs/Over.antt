@@ -1,9 +1,8 @@
 -- A TP THAT ONE CALL IS DONE WITH: it is passed over, or all of it is data of the EP under way. Assumes nothing.
-use Rattle.std.specs.Prelude.{ℕ, ◌-◌, ◌≤◌, ◌<◌, ◌≡◌, Bool, true, false, List, length, drop}
+use Rattle.std.specs.Prelude.{ℕ, ◌-◌, ◌≤◌, ◌<◌, ◌≡◌, Bool, true, false, List, length, drop, None, Option, Some}
 use Rattle.receiver.specs.declared.Receiver.{Receiver}
 use Rattle.receiver.specs.declared.Stage.TheVariants.{Fresh}
 use Rattle.receiver.specs.declared.walk.Kept.{Kept}
-use Rattle.receiver.specs.declared.walk.Kept.TheVariants.{Empty, Of}
 use Rattle.receiver.specs.declared.walk.Phase.{Phase}
 use Rattle.receiver.specs.declared.walk.Phase.TheVariants.{Lost, Head, Judged, Body}
 use Rattle.receiver.specs.Call.{Gives, call_of, walk_to}
@@ -30,9 +29,9 @@ LeftOver n (Judged h) = 1 ≤ 0
 LeftOver n (Body h left) = n < left
 
 -- its data are kept
-abbrev pub Keeping : Kept → Type 0
-Keeping Empty = 1 ≤ 0
-Keeping (Of c e g n) = 0 ≤ 0
+abbrev pub Keeping : Option Kept → Type 0
+Keeping None = 1 ≤ 0
+Keeping (Some k) = 0 ≤ 0
 
 -- the payload of a TP of so many bytes is data that are kept, and more of them follow
 pub record InData (r : Receiver) (len : ℕ) : Type 0 where

@@ -1,10 +1,10 @@
 -- ONE PIECE FURTHER: what a turn reads of a TP's payload, what it tells, and where it leaves the receiver, with no room.
 -- The pieces of a TP that isn't refused stand one behind the other from place 4 on, and a find ends a call (`call_of`).
 -- Assumes nothing.
-use Rattle.std.specs.Prelude.{ℕ, ◌+◌, ◌%◌, cond, List, eqb, leb, length, take, drop, get_or}
-use Rattle.std.proofs.Math.Option.{Option, none, some}
+use Rattle.std.specs.Prelude.{ℕ, ◌+◌, ◌%◌, cond, List, eqb, leb, length, take, drop, get_or, None, Some, Err, Ok, Result, Bool, Option}
 use Rattle.digits.specs.Digits.{number}
 use Rattle.wire.specs.Reading.{tp_number_in, stream_of, version_of}
+use Rattle.wire.specs.declared.Header.{Header}
 use Rattle.receiver.specs.declared.About.{About}
 use Rattle.receiver.specs.declared.Find.{Find}
 use Rattle.receiver.specs.declared.Find.TheVariants as F
@@ -14,24 +14,15 @@ use Rattle.receiver.specs.declared.Stamp.{Stamp}
 use Rattle.receiver.specs.declared.Role.{Role}
 use Rattle.receiver.specs.declared.Role.TheVariants as R
 use Rattle.receiver.specs.declared.Piece.{Piece}
-use Rattle.receiver.specs.declared.Told.{Told}
-use Rattle.receiver.specs.declared.Told.TheVariants as T
 use Rattle.receiver.specs.declared.Turned.{Turned}
 use Rattle.receiver.specs.declared.Step.{Step}
 use Rattle.receiver.specs.declared.Stage.{Stage}
 use Rattle.receiver.specs.declared.Stage.TheVariants.{Fresh, Low, Due, Plain}
 use Rattle.receiver.specs.declared.entry.Top.{Top}
 use Rattle.receiver.specs.declared.entry.Top.TheVariants.{Elsewhere, Dropped, Says}
-use Rattle.receiver.specs.declared.low.Llep.{Llep}
-use Rattle.receiver.specs.declared.low.Llep.TheVariants as L
-use Rattle.receiver.specs.declared.outset.Offset.{Offset}
-use Rattle.receiver.specs.declared.outset.Offset.TheVariants.{Behind, Outside}
-use Rattle.receiver.specs.declared.outset.Start.{Start}
-use Rattle.receiver.specs.declared.outset.Start.TheVariants.{Reads, Loses}
 use Rattle.receiver.specs.declared.walk.Gain.{Gain}
 use Rattle.receiver.specs.declared.walk.Gain.TheVariants as G
 use Rattle.receiver.specs.declared.walk.Kept.{Kept}
-use Rattle.receiver.specs.declared.walk.Kept.TheVariants.{Empty, Of}
 use Rattle.receiver.specs.declared.walk.Phase.{Phase}
 use Rattle.receiver.specs.declared.walk.Phase.TheVariants.{Lost, Head, Judged, Body}
 use Rattle.receiver.specs.declared.walk.Turn.{Turn}
@@ -58,10 +49,10 @@ abbrev pub none_of : Place → About
 none_of p = record { repaired = 0; at = p }
 
 -- reading at this place, in this phase and with this kept
-abbrev pub walk_of : Receiver → ℕ → Phase → Kept → Walk
+abbrev pub walk_of : Receiver → ℕ → Phase → Option Kept → Walk
 walk_of r at p k = record { at = at; phase = p; began = r.walk.began; kept = k }
 
-abbrev pub step_of : Receiver → Stage → ℕ → Phase → Kept → Find → Place → Step
+abbrev pub step_of : Receiver → Stage → ℕ → Phase → Option Kept → Find → Place → Step
 step_of r s at p k f g = step_with r s (walk_of r at p k) f (none_of g)
 
 abbrev pub same_of : Receiver → Find → Place → Step
@@ -72,9 +63,9 @@ piece_of from to role = record { from = from; to = to; role = role }
 
 -- a piece with a find, and one without
 abbrev pub gave_of : Step → Piece → Turned
-gave_of q p = record { receiver = q.receiver; piece = p; told = T.Gives q.find; about = q.about }
+gave_of q p = record { receiver = q.receiver; piece = p; told = Some q.find; about = q.about }
 
-abbrev pub went_of : Receiver → Stage → Walk → Piece → Told → About → Turned
+abbrev pub went_of : Receiver → Stage → Walk → Piece → Option Find → About → Turned
 went_of r s w p t a = record { receiver = receiver_with r s w; piece = p; told = t; about = a }
 
 -- the stamp by the receiver's own count
@@ -82,7 +73,7 @@ abbrev pub stamp_of : Receiver → Stamp
 stamp_of r = own_of r.count
 
 abbrev pub on_of : Receiver → Stage → Walk → Piece → Turned
-on_of r s w p = went_of r s w p T.More (none_of (start_of (stamp_of r)))
+on_of r s w p = went_of r s w p None (none_of (start_of (stamp_of r)))
 
 -- 6, 8: nothing is read
 abbrev pub same_turn : Receiver → ℕ → Turned
@@ -90,8 +81,8 @@ same_turn r n = gave_of (same_of r (F.Notice n) (start_of (stamp_of r))) (piece_
 
 -- THE TP'S HEADER: "the checks of .. 8, 7, 9 in this order"
 abbrev pub says_of : Option ℕ → Top
-says_of none = Dropped 9
-says_of (some w) = Says (leb 2048 w) (w % 2048)
+says_of None = Dropped 9
+says_of (Some w) = Says (leb 2048 w) (w % 2048)
 
 unfoldable pub top_of : ℕ → List ℕ → Top
 top_of stream tp =
@@ -103,32 +94,32 @@ top_of stream tp =
 abbrev pub top_turn : Top → Receiver → ℕ → Turned
 top_turn Elsewhere r len = same_turn r 8
 top_turn (Dropped n) r len =
-    gave_of (step_of (counted_of r) Fresh 0 Lost Empty (F.Notice n) (start_of (stamp_of (counted_of r)))) (piece_of 4 len R.Passed)
+    gave_of (step_of (counted_of r) Fresh 0 Lost None (F.Notice n) (start_of (stamp_of (counted_of r)))) (piece_of 4 len R.Passed)
 top_turn (Says low o) r len =
     on_of (counted_of r) (cond low (Low o) (Due o)) (walk_of r 4 r.walk.phase r.walk.kept) (piece_of 4 4 R.Passed)
 
 -- 10, 11, 21: the rest is dropped
 abbrev pub drop_turn : Receiver → ℕ → Role → ℕ → Place → Turned
-drop_turn r len role n g = gave_of (step_of r Plain len Lost Empty (F.Notice n) g) (piece_of r.walk.at len role)
+drop_turn r len role n g = gave_of (step_of r Plain len Lost None (F.Notice n) g) (piece_of r.walk.at len role)
 
 -- ONE LLEP with its end byte
-abbrev pub llep_turn : Llep → Receiver → ℕ → ℕ → Turned
-llep_turn L.Broken r o len = drop_turn r len R.Broken 11 (place_at (stamp_of r) r.walk.at)
-llep_turn (L.Whole h more) r o len =
+abbrev pub llep_turn : Option (Header × Bool) → Receiver → ℕ → ℕ → Turned
+llep_turn None r o len = drop_turn r len R.Broken 11 (place_at (stamp_of r) r.walk.at)
+llep_turn (Some (h, more)) r o len =
     went_of r (cond more (Low o) (Due o)) (walk_of r (r.walk.at + 7 + h.size) r.walk.phase r.walk.kept)
     (piece_of r.walk.at (r.walk.at + 7 + h.size) (R.Llep h)) (told_of (kind_of h) h r.walk.at)
     (record { repaired = repaired_of (kind_of h) h; at = place_at (stamp_of r) r.walk.at })
 
 -- THE OUTSET: in step at once, or the bytes before the offset passed over
-abbrev pub out_turn : Start → Receiver → ℕ → ℕ → Turned
-out_turn (Reads x) r n len = on_of r Plain x (piece_of r.walk.at x.at R.Passed)
-out_turn (Loses i) r n len =
-    gave_of (step_of r Plain (r.walk.at + n) (upon_of (r.walk.at + n) len) Empty (F.Notice i) (lost_at i (stamp_of r) r.walk.began))
+abbrev pub out_turn : Result Walk ℕ → Receiver → ℕ → ℕ → Turned
+out_turn (Ok x) r n len = on_of r Plain x (piece_of r.walk.at x.at R.Passed)
+out_turn (Err i) r n len =
+    gave_of (step_of r Plain (r.walk.at + n) (upon_of (r.walk.at + n) len) None (F.Notice i) (lost_at i (stamp_of r) r.walk.began))
     (piece_of r.walk.at (r.walk.at + n) R.Passed)
 
-abbrev pub due_turn : Offset → Receiver → List ℕ → Turned
-due_turn (Outside n) r tp = drop_turn r (length tp) R.Passed n (start_of (stamp_of r))
-due_turn (Behind n) r tp = out_turn (set_out_of r.walk n tp) r n (length tp)
+abbrev pub due_turn : Result ℕ ℕ → Receiver → List ℕ → Turned
+due_turn (Err n) r tp = drop_turn r (length tp) R.Passed n (start_of (stamp_of r))
+due_turn (Ok n) r tp = out_turn (set_out_of r.walk n tp) r n (length tp)
 
 -- AMONG ORDINARY BYTES: what a turn gained; none ends the TP
 abbrev pub tell_of : Gain → Receiver → Stamp → Walk → Step
@@ -144,11 +135,11 @@ head_role (Head n w) = R.Cut
 head_role (Judged h) = R.Whole h
 head_role (Body h n) = R.Whole h
 
-abbrev pub data_role : Kept → Role
-data_role Empty = R.Skipped
-data_role (Of c e g n) = R.Kept n
+abbrev pub data_role : Option Kept → Role
+data_role None = R.Skipped
+data_role (Some k) = R.Kept k.len
 
-abbrev pub role_of : Phase → Kept → Phase → Role
+abbrev pub role_of : Phase → Option Kept → Phase → Role
 role_of Lost k q = R.Passed
 role_of (Head n w) k q = head_role q
 role_of (Judged h) k q = R.Passed

@@ -1,5 +1,5 @@
 -- What a receiver by value stands for, with the room and the TP lent to a call. Assumes nothing.
-use Rattle.std.specs.Prelude.{ℕ, ◌+◌, ◌-◌, ◌^◌, ◌≤◌, ◌<◌, List, [], ◌∷◌, length, take, drop}
+use Rattle.std.specs.Prelude.{ℕ, ◌+◌, ◌-◌, ◌^◌, ◌≤◌, ◌<◌, List, [], ◌∷◌, length, take, drop, None, Option, Some}
 use Rattle.digits.specs.Digits.{digits}
 use Rattle.receiver.specs.declared.Place.{Place}
 use Rattle.receiver.specs.declared.Receiver.{Receiver}
@@ -9,7 +9,6 @@ use Rattle.receiver.specs.declared.Stage.TheVariants.{Fresh, Low, Due, Plain}
 use Rattle.receiver.specs.declared.walk.Phase.{Phase}
 use Rattle.receiver.specs.declared.walk.Phase.TheVariants.{Lost, Head, Judged, Body}
 use Rattle.receiver.specs.declared.walk.Kept.{Kept}
-use Rattle.receiver.specs.declared.walk.Kept.TheVariants.{Empty, Of}
 use Rattle.receiver.specs.declared.walk.Walk.{Walk}
 use Rattle.receiver.specs.Place.{placed}
 use Rattle.receiver.specs.Frame.{Frame, lost, idle, head, Event, entered, within, ending}
@@ -37,14 +36,18 @@ todo_of g (Head n w) = []
 todo_of g (Judged h) = entered (ep_at g h) ∷ ending wire (ep_at g h) h.size
 todo_of g (Body h n) = ending wire (ep_at g h) n
 
--- what is kept stands at the room's start
-abbrev pub held_of : Kept → List ℕ → Held wire
-held_of Empty m = free
-held_of (Of c e g n) m = held (tag_of c e g) (take n m)
+-- so many bytes of a packet of this content, of this total repaired and begun there, are kept
+abbrev pub kept_by : ℕ → ℕ → Place → ℕ → Option Kept
+kept_by c e g n = Some (record { content = c; repaired = e; began = g; len = n })
 
-abbrev pub keeps : Kept → ℕ
-keeps Empty = 0
-keeps (Of c e g n) = n
+-- what is kept stands at the room's start
+abbrev pub held_of : Option Kept → List ℕ → Held wire
+held_of None m = free
+held_of (Some k) m = held (tag_of k.content k.repaired k.began) (take k.len m)
+
+abbrev pub keeps : Option Kept → ℕ
+keeps None = 0
+keeps (Some k) = k.len
 
 -- the call that a walk among ordinary bytes asks for
 unfoldable pub pull_of : ℕ → Stamp → Walk → List ℕ → List ℕ → Pulled wire
@@ -57,15 +60,15 @@ from cap n t w tp m =
     pull wire cap t.frame (w.at + t.past) (meet wire cap (held_of w.kept m) m t.told) (placed n (w.at + t.past) (drop (w.at + t.past) tp))
 
 -- with n more bytes the packet kept stays in the room
-abbrev pub Roomy : ℕ → Kept → ℕ → Type 0
-Roomy cap Empty n = 0 ≤ 0
-Roomy cap (Of c e g k) n = k + n ≤ cap
+abbrev pub Roomy : ℕ → Option Kept → ℕ → Type 0
+Roomy cap None n = 0 ≤ 0
+Roomy cap (Some q) n = q.len + n ≤ cap
 
 -- and its length is a number of the machine
-abbrev pub Counts : Kept → ℕ → Type 0
+abbrev pub Counts : Option Kept → ℕ → Type 0
 Counts k n = Roomy 18446744073709551615 k n
 
-abbrev pub Fine : ℕ → Phase → Kept → Type 0
+abbrev pub Fine : ℕ → Phase → Option Kept → Type 0
 Fine cap Lost k = Roomy cap k 0
 Fine cap (Head n w) k = (n ≤ 5) × (w < 256 ^ n) × Roomy cap k 0
 Fine cap (Judged h) k = Roomy cap k 0

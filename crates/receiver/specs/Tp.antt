@@ -1,7 +1,6 @@
 -- A whole transport packet, a told gap, and any number of both (document 01, "Receiver", and 6 to 11).
 -- Assumes nothing.
-use Rattle.std.specs.Prelude.{ℕ, ◌-◌, ◌%◌, Bool, true, false, cond, ◌&&◌, List, [], ◌∷◌, ◌++◌, eqb, leb, length, take, drop, get_or}
-use Rattle.std.proofs.Math.Option.{Option, none, some}
+use Rattle.std.specs.Prelude.{ℕ, ◌-◌, ◌%◌, Bool, true, false, cond, ◌&&◌, List, [], ◌∷◌, ◌++◌, eqb, leb, length, take, drop, get_or, None, Option, Some}
 use Rattle.digits.specs.Digits.{number}
 use Rattle.wire.specs.Reading.{tp_number_in, stream_of, version_of}
 use Rattle.receiver.specs.declared.Stamp.{Stamp}
@@ -43,8 +42,8 @@ gap_brings = record { lows = []; way = gaps }
 
 -- behind the low-latency part of a payload. 11: "out of step, rest of TP dropped"
 abbrev pub behind : Part → Option (List ℕ) → Stamp → ℕ → List ℕ → Brings
-behind p none t offset payload = record { lows = p.finds; way = drops 11 (place_at t p.from) }
-behind p (some bs) t offset payload = record {
+behind p None t offset payload = record { lows = p.finds; way = drops 11 (place_at t p.from) }
+behind p (Some bs) t offset payload = record {
   lows = p.finds;
   way = way_at wire (start_of t) offset (length payload - length bs) (placed t p.from bs);
 }
@@ -52,11 +51,11 @@ behind p (some bs) t offset payload = record {
 -- "bit 11: low-latency part present; bits 10 to 0: offset"; the payload begins at the TP's byte 4
 abbrev pub low_part_if : Bool → Stamp → List ℕ → Part
 low_part_if true t payload = low_part t 4 payload
-low_part_if false t payload = record { finds = []; behind = some payload; from = 4 }
+low_part_if false t payload = record { finds = []; behind = Some payload; from = 4 }
 
 abbrev pub worded : Option ℕ → Stamp → List ℕ → Brings
-worded none t payload = dropping 9 t
-worded (some w) t payload = behind (low_part_if (leb 2048 w) t payload) (low_part_if (leb 2048 w) t payload).behind t (w % 2048) payload
+worded None t payload = dropping 9 t
+worded (Some w) t payload = behind (low_part_if (leb 2048 w) t payload) (low_part_if (leb 2048 w) t payload).behind t (w % 2048) payload
 
 -- "For each TP: the checks of 6, 8, 7, 9 in this order; the low-latency part; the offset (10); then ordinary bytes."
 -- (21: "in 10's place in the order")

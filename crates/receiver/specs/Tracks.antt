@@ -1,5 +1,5 @@
 -- TRACKS: a lane as plain numbers, which a loop over TPs carries, and what is met by it. Assumes nothing.
-use Rattle.std.specs.Prelude.{ℕ, ◌+◌, ◌-◌, ◌≤◌, ◌<◌, ◌≡◌, Bool, cond, true, false, List, ◌⊎◌, eqb, length, take, drop}
+use Rattle.std.specs.Prelude.{ℕ, ◌+◌, ◌-◌, ◌≤◌, ◌<◌, ◌≡◌, Bool, cond, true, false, List, ◌⊎◌, eqb, length, take, drop, None, Option, Some}
 use Rattle.digits.specs.Digits.{number}
 use Rattle.wire.specs.declared.Header.{Header}
 use Rattle.queue.specs.Ring.{copied}
@@ -18,7 +18,6 @@ use Rattle.receiver.specs.declared.track.Onto.{Onto}
 use Rattle.receiver.specs.declared.track.Brief.{Brief}
 use Rattle.receiver.specs.declared.kind.Kind.TheVariants.{Complete}
 use Rattle.receiver.specs.declared.walk.Kept.{Kept}
-use Rattle.receiver.specs.declared.walk.Kept.TheVariants.{Empty, Of}
 use Rattle.receiver.specs.declared.walk.Phase.{Phase}
 use Rattle.receiver.specs.declared.walk.Phase.TheVariants.{Lost, Head, Judged, Body}
 use Rattle.receiver.specs.Kind.{kind_of}
@@ -68,12 +67,12 @@ pub record Own (g : Place) (h : Header) (n c e : ℕ) (p : Place) (k : ℕ) : Ty
   pub place : p ≡ g
   pub size : h.size ≡ k + n
 
-abbrev pub OwnIn : Place → Phase → Kept → Type 0
+abbrev pub OwnIn : Place → Phase → Option Kept → Type 0
 OwnIn g Lost x = 0 ≤ 0
 OwnIn g (Head n w) x = 0 ≤ 0
 OwnIn g (Judged h) x = 0 ≤ 0
-OwnIn g (Body h n) Empty = 0 ≤ 0
-OwnIn g (Body h n) (Of c e p k) = 0 < n → kind_of h ≡ Complete → Own g h n c e p k
+OwnIn g (Body h n) None = 0 ≤ 0
+OwnIn g (Body h n) (Some q) = 0 < n → kind_of h ≡ Complete → Own g h n q.content q.repaired q.began q.len
 
 -- as calls leave a receiver
 abbrev pub Placed : Receiver → Type 0

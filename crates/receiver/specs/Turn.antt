@@ -1,13 +1,12 @@
 -- WHAT `turn` PROMISES, and what its pieces do to a room. Assumes nothing.
-use Rattle.std.specs.Prelude.{ℕ, ◌+◌, ◌-◌, ◌*◌, ◌≤◌, ◌<◌, Bool, true, false, ◌≡◌, List, length, drop}
+use Rattle.std.specs.Prelude.{ℕ, ◌+◌, ◌-◌, ◌*◌, ◌≤◌, ◌<◌, Bool, true, false, ◌≡◌, List, length, drop, None, Option, Some}
 use Rattle.std.proofs.Math.Seq.{paste}
+use Rattle.receiver.specs.declared.Find.{Find}
 use Rattle.receiver.specs.declared.About.{About}
 use Rattle.receiver.specs.declared.Receiver.{Receiver}
 use Rattle.receiver.specs.declared.Role.{Role}
 use Rattle.receiver.specs.declared.Role.TheVariants as R
 use Rattle.receiver.specs.declared.Piece.{Piece}
-use Rattle.receiver.specs.declared.Told.{Told}
-use Rattle.receiver.specs.declared.Told.TheVariants as T
 use Rattle.receiver.specs.declared.Turned.{Turned}
 use Rattle.receiver.specs.declared.Stage.{Stage}
 use Rattle.receiver.specs.declared.Stage.TheVariants.{Fresh, Low, Due, Plain}
@@ -47,16 +46,16 @@ abbrev pub effort : ℕ → Receiver → ℕ
 effort len r = effort_by len r.stage r.walk
 
 -- whether the TP has more to give
-abbrev pub told_goes_on : Told → Bool
-told_goes_on T.More = true
-told_goes_on (T.Gives f) = lasts f
+abbrev pub told_goes_on : Option Find → Bool
+told_goes_on None = true
+told_goes_on (Some f) = lasts f
 
 abbrev pub LessIf : Bool → ℕ → ℕ → Type 0
 LessIf true a b = a < b
 LessIf false a b = 0 ≤ 0
 
 -- a turn after which the TP goes on leaves less to do
-abbrev pub Nearer : Told → ℕ → Receiver → Receiver → Type 0
+abbrev pub Nearer : Option Find → ℕ → Receiver → Receiver → Type 0
 Nearer t len r q = LessIf (told_goes_on t) (effort len q) (effort len r)
 
 -- THE PROMISE of a turn
@@ -80,9 +79,9 @@ unfoldable pub put_of : Piece → List ℕ → List ℕ → List ℕ
 put_of p tp m = put_by p.role p.from p.to tp m
 
 -- what a turn makes of the call, whatever room is lent: its answer, or the same call still to be made
-abbrev pub Makes : Told → About → Receiver → List ℕ → List ℕ → Receiver → List ℕ → Type 0
-Makes T.More a r tp m q m' = (length m' ≡ q.limit) × (call_of q tp m' ≡ call_of r tp m)
-Makes (T.Gives f) a r tp m q m' = Gives (call_of r tp m) (record { receiver = q; find = f; about = a }) tp m'
+abbrev pub Makes : Option Find → About → Receiver → List ℕ → List ℕ → Receiver → List ℕ → Type 0
+Makes None a r tp m q m' = (length m' ≡ q.limit) × (call_of q tp m' ≡ call_of r tp m)
+Makes (Some f) a r tp m q m' = Gives (call_of r tp m) (record { receiver = q; find = f; about = a }) tp m'
 
 -- where reading stands in the payload
 abbrev pub stands_by : Stage → Walk → ℕ

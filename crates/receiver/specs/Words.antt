@@ -1,10 +1,8 @@
 -- A receiver as words that anyone may keep, and the receiver whose words these are, if it can be called: the library for C keeps its
 -- states so. Assumes nothing.
-use Rattle.std.specs.Prelude.{ℕ, ◌+◌, ◌%◌, ◌^◌, ◌≤◌, ◌<◌, Bool, true, false, cond, ◌&&◌, ◌||◌, List, [], ◌∷◌, leb, ltb, eqb, get_or}
+use Rattle.std.specs.Prelude.{ℕ, ◌+◌, ◌%◌, ◌^◌, ◌≤◌, ◌<◌, Bool, true, false, cond, ◌&&◌, ◌||◌, List, [], ◌∷◌, leb, ltb, eqb, get_or, None, Option, Some}
 use Rattle.wire.specs.declared.Header.{Header}
-use Rattle.receiver.specs.State.{Able}
-use Rattle.receiver.specs.declared.Opened.{Opened}
-use Rattle.receiver.specs.declared.Opened.TheVariants as O
+use Rattle.receiver.specs.State.{Able, kept_by}
 use Rattle.receiver.specs.declared.Place.{Place}
 use Rattle.receiver.specs.declared.Receiver.{Receiver}
 use Rattle.receiver.specs.declared.Stage.{Stage}
@@ -12,7 +10,6 @@ use Rattle.receiver.specs.declared.Stage.TheVariants.{Fresh, Low, Due, Plain}
 use Rattle.receiver.specs.declared.walk.Phase.{Phase}
 use Rattle.receiver.specs.declared.walk.Phase.TheVariants.{Lost, Head, Judged, Body}
 use Rattle.receiver.specs.declared.walk.Kept.{Kept}
-use Rattle.receiver.specs.declared.walk.Kept.TheVariants.{Empty, Of}
 
 -- ---- words of a receiver
 
@@ -41,9 +38,9 @@ phase_words (Judged h) g = header_words 2 h 0 g
 phase_words (Body h n) g = header_words 3 h n g
 
 -- sort, content, repaired, length, where it began
-abbrev pub kept_words : Kept → List ℕ
-kept_words Empty = 0 ∷ 0 ∷ 0 ∷ 0 ∷ 0 ∷ 0 ∷ 0 ∷ []
-kept_words (Of c e g n) = 1 ∷ c ∷ e ∷ n ∷ place_words g
+abbrev pub kept_words : Option Kept → List ℕ
+kept_words None = 0 ∷ 0 ∷ 0 ∷ 0 ∷ 0 ∷ 0 ∷ 0 ∷ []
+kept_words (Some k) = 1 ∷ k.content ∷ k.repaired ∷ k.len ∷ place_words k.began
 
 -- size, stream, limit, count, place; then stage, phase and what is kept
 abbrev pub joined : ℕ → ℕ → ℕ → ℕ → ℕ → List ℕ → List ℕ → List ℕ → List ℕ
@@ -71,8 +68,8 @@ phase_in sort a b c d left =
 abbrev pub place_in : ℕ → ℕ → ℕ → Place
 place_in n b at = record { stamp = record { number = n; byte = b }; at = at }
 
-unfoldable pub kept_in : ℕ → ℕ → ℕ → ℕ → Place → Kept
-kept_in sort c e n g = cond (eqb sort 0) Empty (Of (c % 256) e g n)
+unfoldable pub kept_in : ℕ → ℕ → ℕ → ℕ → Place → Option Kept
+kept_in sort c e n g = cond (eqb sort 0) None (kept_by (c % 256) e g n)
 
 unfoldable pub receiver_in : List ℕ → Receiver
 receiver_in ws = record {
@@ -131,8 +128,8 @@ bareb ws =
     eqb (get_or ws 16 0) 0 && (datalessb (get_or ws 7 0) (get_or ws 8 0) (get_or ws 9 0) && (stagedb (get_or ws 5 0) (get_or ws 6 0) (get_or ws 4 0) && openedb (get_or ws 0 0) (get_or ws 1 0) (get_or ws 2 0) (get_or ws 4 0)))
 
 -- THE RECEIVER OF WORDS: refused where it couldn't be called, or is outside an opening's limits
-unfoldable pub of_words : List ℕ → Opened
-of_words ws = cond (fitb ws) (O.Ready (receiver_in ws)) O.Refused
+unfoldable pub of_words : List ℕ → Option Receiver
+of_words ws = cond (fitb ws) (Some (receiver_in ws)) None
 
 -- ---- what the laws say (proofs/Worded.antt)
 
@@ -152,9 +149,9 @@ PhaseBytes (Head n w) = 0 ≤ 0
 PhaseBytes (Judged h) = HeaderBytes h
 PhaseBytes (Body h n) = HeaderBytes h
 
-abbrev pub KeptBytes : Kept → Type 0
-KeptBytes Empty = 0 ≤ 0
-KeptBytes (Of c e g n) = c < 256
+abbrev pub KeptBytes : Option Kept → Type 0
+KeptBytes None = 0 ≤ 0
+KeptBytes (Some k) = k.content < 256
 
 pub record Bytes (r : Receiver) : Type 0 where
   pub phase : PhaseBytes r.walk.phase
@@ -166,6 +163,6 @@ pub record Fit (r : Receiver) : Type 0 where
   pub opens : Opens r
   pub bytes : Bytes r
 
-abbrev pub FitIf : Opened → Type 0
-FitIf O.Refused = 0 ≤ 0
-FitIf (O.Ready r) = Fit r
+abbrev pub FitIf : Option Receiver → Type 0
+FitIf None = 0 ≤ 0
+FitIf (Some r) = Fit r

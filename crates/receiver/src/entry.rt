@@ -4,7 +4,6 @@ ghost use Rattle.digits.specs.Digits.{number};
 ghost use Rattle.receiver.specs.declared.Find.TheVariants as F;
 ghost use Rattle.receiver.specs.declared.Stage.TheVariants.{Fresh};
 ghost use Rattle.receiver.specs.declared.entry.Begun.TheVariants as B;
-ghost use Rattle.receiver.specs.declared.walk.Kept.TheVariants.{Empty};
 ghost use Rattle.receiver.specs.declared.walk.Phase.TheVariants.{Lost};
 ghost use Rattle.receiver.specs.State.{Able};
 ghost use Rattle.receiver.specs.Place.{start_of};
@@ -42,11 +41,9 @@ pub fn tp_word(tp: &[u8]) -> u32
 
 // Out of step, the TP dropped.
 fn drop_all(r: Receiver, stamp: Stamp, number: u8) -> Begun
-    ensures { result ≡ B.Gives (step_of r Fresh 0 Lost Empty (F.Notice number) (start_of stamp)) }
+    ensures { result ≡ B.Gives (step_of r Fresh 0 Lost None (F.Notice number) (start_of stamp)) }
 {
-    let w = r.walk;
-    let kept = w.kept;
-    let none = judge::emptied(kept);
+    let none = judge::emptied(r.walk.kept);
     let find = Find::Notice(number);
     Begun::Gives(stages::step_to(
         r,
@@ -72,8 +69,8 @@ pub fn read_top(stream: u8, tp: &[u8]) -> Top
         return Top::Dropped(7);
     }
     match wire::read_tp_word(tp_word(tp)) {
-        TpWord::Beyond => Top::Dropped(9),
-        TpWord::Says { low, offset } => Top::Says { low, offset },
+        None => Top::Dropped(9),
+        Some(TpWord { low, offset }) => Top::Says { low, offset },
     }
 }
 
@@ -96,10 +93,8 @@ pub fn begin(r: Receiver, t: Stamps, tp: &[u8]) -> Begun
     requires { Able r × (length tp.now ≡ r.size) }
     ensures { Begins (stage_call r.stage r (counted_of r) t tp.now) (counted_of r) t.now tp.now result }
 {
-    let stage = r.stage;
-    let w = r.walk;
-    let at = w.at;
-    match stage {
+    let at = r.walk.at;
+    match r.stage {
         Stage::Fresh => first(r, t, tp),
         Stage::Low(offset) => Begun::Part {
             low: true,

@@ -1,7 +1,6 @@
 // What a header, and an EP's end, do to what is kept: 12, 14, 16, 15, or a packet.
 ghost use Rattle.std.specs.Prelude.{◌≡◌, ◌≤◌};
 ghost use Rattle.wire.specs.Reading.{header_in};
-ghost use Rattle.receiver.specs.declared.walk.Kept.TheVariants.{Empty};
 ghost use Rattle.receiver.specs.Kind.{kind_of};
 ghost use Rattle.receiver.specs.Low.{tag_of, total_of};
 ghost use Rattle.receiver.specs.State.{Roomy};
@@ -10,7 +9,7 @@ ghost use Rattle.receiver.specs.Turns.{goes, stops, holds_of, empty_of, meets_of
 use crate::kind::Kind;
 use crate::walk::{Answer, Gain, Kept, Phase, Turn, Walk};
 use crate::{Place, kind};
-use wire::{Header, Read};
+use wire::Header;
 
 // What a packet is known by.
 #[derive(Clone, Copy)]
@@ -20,7 +19,7 @@ pub struct Tag {
     began: Place,
 }
 
-pub fn stop(at: usize, phase: Phase, began: Place, kept: Kept, gain: Gain) -> Turn
+pub fn stop(at: usize, phase: Phase, began: Place, kept: Option<Kept>, gain: Gain) -> Turn
     ensures { result ≡ stops at phase began kept gain }
 {
     Turn::Stop(Answer {
@@ -34,7 +33,7 @@ pub fn stop(at: usize, phase: Phase, began: Place, kept: Kept, gain: Gain) -> Tu
     })
 }
 
-fn more(at: usize, phase: Phase, began: Place, kept: Kept) -> Turn
+fn more(at: usize, phase: Phase, began: Place, kept: Option<Kept>) -> Turn
     ensures { result ≡ goes at phase began kept }
 {
     Turn::More(Walk {
@@ -45,44 +44,31 @@ fn more(at: usize, phase: Phase, began: Place, kept: Kept) -> Turn
     })
 }
 
-// Nothing kept, assigned over what was: behind a new `Kept::Empty` stand bytes of earlier turns, which the compiler then carries along.
-pub fn emptied(kept: Kept) -> Kept
-    ensures { result ≡ Empty }
+// Nothing kept, assigned over what was: behind a `None` of its own stand bytes of earlier turns, which the compiler then carries along.
+pub fn emptied(kept: Option<Kept>) -> Option<Kept>
+    ensures { result ≡ None }
 {
     let mut none = kept;
-    none = Kept::Empty;
+    none = None;
     none
 }
 
-fn empty(kept: Kept) -> bool
+fn empty(kept: Option<Kept>) -> bool
     ensures { result ≡ empty_of kept }
 {
-    match kept {
-        Kept::Empty => true,
-        Kept::Of {
-            content: _,
-            repaired: _,
-            began: _,
-            len: _,
-        } => false,
-    }
+    kept.is_none()
 }
 
-fn holds(kept: Kept, content: u8) -> bool
+fn holds(kept: Option<Kept>, content: u8) -> bool
     ensures { result ≡ holds_of kept content }
 {
     match kept {
-        Kept::Empty => false,
-        Kept::Of {
-            content: c,
-            repaired: _,
-            began: _,
-            len: _,
-        } => c == content,
+        None => false,
+        Some(k) => k.content == content,
     }
 }
 
-fn meets(kind: Kind, kept: Kept, content: u8) -> bool
+fn meets(kind: Kind, kept: Option<Kept>, content: u8) -> bool
     ensures { result ≡ meets_of kind kept content }
 {
     match kind {
@@ -114,43 +100,38 @@ fn fits(at: usize, header: Header, began: Place, tag: Tag, len: usize, cap: usiz
     let size = header.size;
     let body = Phase::Body { header, left: size };
     let first = tag.began;
-    let kept = Kept::Of {
+    let kept = Some(Kept {
         content: tag.content,
         repaired: tag.repaired,
         began: first,
         len,
-    };
+    });
     if size <= cap - len {
         return more(at, body, began, kept);
     }
     stop(at, body, began, emptied(kept), Gain::Notice(15))
 }
 
-fn further(at: usize, header: Header, began: Place, kept: Kept, cap: usize) -> Turn
+fn further(at: usize, header: Header, began: Place, kept: Option<Kept>, cap: usize) -> Turn
     requires { Roomy cap kept 0 }
     ensures { result ≡ further_of at header began kept cap }
 {
     let size = header.size;
     match kept {
-        Kept::Empty => more(at, Phase::Body { header, left: size }, began, kept),
-        Kept::Of {
-            content,
-            repaired,
-            began: first,
-            len,
-        } => {
+        None => more(at, Phase::Body { header, left: size }, began, kept),
+        Some(k) => {
             let tag = Tag {
-                content,
-                repaired: joined(repaired, header.flips),
-                began: first,
+                content: k.content,
+                repaired: joined(k.repaired, header.flips),
+                began: k.began,
             };
-            fits(at, header, began, tag, len, cap)
+            fits(at, header, began, tag, k.len, cap)
         }
     }
 }
 
 // Into the EP of a header that fits, or that got 14: 16, 15.
-pub fn admit(at: usize, header: Header, began: Place, kept: Kept, cap: usize) -> Turn
+pub fn admit(at: usize, header: Header, began: Place, kept: Option<Kept>, cap: usize) -> Turn
     requires { Roomy cap kept 0 }
     ensures { result ≡ admit_of (kind_of header) at header began kept cap }
 {
@@ -173,7 +154,7 @@ pub fn admit(at: usize, header: Header, began: Place, kept: Kept, cap: usize) ->
 }
 
 // A header is whole: 14 if it doesn't fit what is kept, else into its EP.
-fn opened(at: usize, header: Header, began: Place, kept: Kept, cap: usize) -> Turn
+fn opened(at: usize, header: Header, began: Place, kept: Option<Kept>, cap: usize) -> Turn
     requires { Roomy cap kept 0 }
     ensures { result ≡ opened_of at header began kept cap }
 {
@@ -185,33 +166,28 @@ fn opened(at: usize, header: Header, began: Place, kept: Kept, cap: usize) -> Tu
 }
 
 // Six bytes are there.
-pub fn whole(at: usize, word: u64, began: Place, kept: Kept, cap: usize) -> Turn
+pub fn whole(at: usize, word: u64, began: Place, kept: Option<Kept>, cap: usize) -> Turn
     requires { Roomy cap kept 0 }
     ensures { result ≡ whole_of at (header_in word) began kept cap }
 {
     match wire::read_header(word) {
-        Read::Beyond => stop(at, Phase::Lost, began, emptied(kept), Gain::Notice(12)),
-        Read::Whole(header) => opened(at, header, began, kept, cap),
+        None => stop(at, Phase::Lost, began, emptied(kept), Gain::Notice(12)),
+        Some(header) => opened(at, header, began, kept, cap),
     }
 }
 
-fn handed(at: usize, began: Place, kept: Kept) -> Turn
+fn handed(at: usize, began: Place, kept: Option<Kept>) -> Turn
     ensures { result ≡ handed_of at began kept }
 {
     let next = Phase::Head { have: 0, word: 0 };
     match kept {
-        Kept::Empty => more(at, next, began, kept),
-        Kept::Of {
-            content,
-            repaired,
-            began: first,
-            len,
-        } => {
+        None => more(at, next, began, kept),
+        Some(k) => {
             let packet = Gain::Packet {
-                content,
-                repaired,
-                began: first,
-                len,
+                content: k.content,
+                repaired: k.repaired,
+                began: k.began,
+                len: k.len,
             };
             stop(at, next, began, emptied(kept), packet)
         }
@@ -219,7 +195,7 @@ fn handed(at: usize, began: Place, kept: Kept) -> Turn
 }
 
 // The last byte of an EP is read.
-pub fn finish(at: usize, header: Header, began: Place, kept: Kept) -> Turn
+pub fn finish(at: usize, header: Header, began: Place, kept: Option<Kept>) -> Turn
     ensures { result ≡ finish_of (kind_of header) at began kept }
 {
     let next = Phase::Head { have: 0, word: 0 };

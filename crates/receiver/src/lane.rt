@@ -2,20 +2,18 @@
 // no lane covers is left to a call by value.
 ghost use Rattle.std.specs.Prelude.{◌≡◌, true, ◌+◌, ◌≤◌, ◌<◌, ◌^◌, length};
 ghost use Rattle.receiver.specs.declared.lane.Lane.TheVariants as L;
-ghost use Rattle.receiver.specs.declared.walk.Kept.TheVariants.{Empty, Of};
 ghost use Rattle.receiver.specs.Lows.{lows_of};
-ghost use Rattle.receiver.specs.State.{Able, Fine, Settled};
+ghost use Rattle.receiver.specs.State.{Able, Fine, Settled, kept_by};
 ghost use Rattle.receiver.specs.Turns.{walk_at};
 ghost use Rattle.receiver.specs.Lanes.{Tidy, LanedAs, walk_in, in_lane, top_in, AheadAs, OutAs};
-ghost use Rattle.receiver.specs.InLanes.{StandsAs, SameIf, FitsIf, EntersAs, SetAs};
+ghost use Rattle.receiver.specs.InLanes.{StandsAs, FitsIf, EntersAs, SetAs};
 
 pub use crate::entry::Top;
 pub use crate::low::Lows;
-use crate::outset::Offset;
-pub use crate::stamps::counted;
+pub use crate::stamps::{counted, of as place_of};
 use crate::walk::{Kept, Phase, Walk};
 use crate::{Place, Receiver, Stage, Stamp, entry, low, outset, stamps, stride, walk};
-use wire::{Header, Read};
+use wire::Header;
 
 // What a receiver stands in before a TP: in none; out of step; between two EPs; in a header, of which these bytes are read; in
 // the data of a complete EP, of which so many are left, and so many in the room.
@@ -58,7 +56,7 @@ pub enum Met {
 // With nothing kept.
 fn unkept(phase: Phase, began: Place, cap: usize) -> Lane
     requires { Settled phase }
-    ensures { StandsAs cap result (walk_at 0 phase began Empty) }
+    ensures { StandsAs cap result (walk_at 0 phase began None) }
 {
     match phase {
         Phase::Lost => Lane::Lost,
@@ -68,23 +66,8 @@ fn unkept(phase: Phase, began: Place, cap: usize) -> Lane
             }
             Lane::Cut { began, have, word }
         }
-        Phase::Judged(_) => Lane::Other,
-        Phase::Body { header: _, left: _ } => Lane::Other,
+        Phase::Judged(_) | Phase::Body { .. } => Lane::Other,
     }
-}
-
-fn is_same(a: Place, b: Place) -> bool
-    ensures { SameIf result a b }
-{
-    let s = a.stamp;
-    let t = b.stamp;
-    if s.number != t.number {
-        return false;
-    }
-    if s.byte != t.byte {
-        return false;
-    }
-    a.at == b.at
 }
 
 // With so many bytes kept of a packet that began there: in the data of a complete EP.
@@ -97,8 +80,8 @@ fn kept_of(
     len: usize,
     cap: usize,
 ) -> Lane
-    requires { Settled phase × Fine cap phase (Of content repaired first len) }
-    ensures { StandsAs cap result (walk_at 0 phase began (Of content repaired first len)) }
+    requires { Settled phase × Fine cap phase (kept_by content repaired first len) }
+    ensures { StandsAs cap result (walk_at 0 phase began (kept_by content repaired first len)) }
 {
     let Phase::Body { header, left } = phase else {
         return Lane::Other;
@@ -116,7 +99,7 @@ fn kept_of(
     if header.size != len + left {
         return Lane::Other;
     }
-    if !is_same(began, first) {
+    if began != first {
         return Lane::Other;
     }
     Lane::Busy {
@@ -133,25 +116,18 @@ pub fn lane_of(r: Receiver) -> Lane
     requires { Able r }
     ensures { LanedAs result r }
 {
-    let stage = r.stage;
-    let w = r.walk;
-    let Stage::Fresh = stage else {
+    let Stage::Fresh = r.stage else {
         return Lane::Other;
     };
+    let w = r.walk;
     if w.at != 0 {
         return Lane::Other;
     }
-    let phase = w.phase;
-    let began = w.began;
-    let kept = w.kept;
-    match kept {
-        Kept::Empty => unkept(phase, began, r.limit),
-        Kept::Of {
-            content,
-            repaired,
-            began: first,
-            len,
-        } => kept_of(phase, began, content, repaired, first, len, r.limit),
+    match w.kept {
+        None => unkept(w.phase, w.began, r.limit),
+        Some(k) => kept_of(
+            w.phase, w.began, k.content, k.repaired, k.began, k.len, r.limit,
+        ),
     }
 }
 
@@ -174,29 +150,23 @@ fn walk_in(was: Place, lane: Lane, at: usize, cap: usize) -> Walk
     ensures { result ≡ walk_in was lane at }
 {
     match lane {
-        Lane::Other => Walk {
+        Lane::Other | Lane::Lost => Walk {
             at,
             phase: Phase::Lost,
             began: was,
-            kept: Kept::Empty,
-        },
-        Lane::Lost => Walk {
-            at,
-            phase: Phase::Lost,
-            began: was,
-            kept: Kept::Empty,
+            kept: None,
         },
         Lane::Idle => Walk {
             at,
             phase: Phase::Head { have: 0, word: 0 },
             began: was,
-            kept: Kept::Empty,
+            kept: None,
         },
         Lane::Cut { began, have, word } => Walk {
             at,
             phase: Phase::Head { have, word },
             began,
-            kept: Kept::Empty,
+            kept: None,
         },
         Lane::Busy {
             began,
@@ -211,12 +181,12 @@ fn walk_in(was: Place, lane: Lane, at: usize, cap: usize) -> Walk
                 size: len + left,
                 flips,
             };
-            let kept = Kept::Of {
+            let kept = Some(Kept {
                 content,
                 repaired: flips as u64,
                 began,
                 len,
-            };
+            });
             Walk {
                 at,
                 phase: Phase::Body { header, left },
@@ -232,15 +202,11 @@ pub fn in_lane(r: Receiver, count: u64, lane: Lane, stage: Stage, at: usize) -> 
     requires { Tidy r.limit lane }
     ensures { result ≡ in_lane r count lane stage at }
 {
-    let w = r.walk;
-    let was = w.began;
     Receiver {
-        size: r.size,
-        stream: r.stream,
-        limit: r.limit,
         count,
         stage,
-        walk: walk_in(was, lane, at, r.limit),
+        walk: walk_in(r.walk.began, lane, at, r.limit),
+        ..r
     }
 }
 
@@ -273,9 +239,9 @@ fn entered(h: Header, began: Place, from: usize, tp: &[u8], room: &mut [u8]) -> 
     let size = h.size;
     let content = h.content;
     let flips = h.flips;
-    let n = queue::least(size, tp.len() - from);
+    let n = size.min(tp.len() - from);
     let end = from + n;
-    queue::move_at(room, 0, &tp[from..end]);
+    queue::copy_at(room, 0, &tp[from..end]);
     if n < size {
         return Met::Ends(Lane::Busy {
             began,
@@ -313,7 +279,7 @@ pub fn look_ahead(start: usize, stamp: Stamp, tp: &[u8], room: &mut [u8]) -> Met
             word: walk::gather(tp, from, rest, 0, 0),
         });
     }
-    let Read::Whole(h) = stride::read_at(tp, from) else {
+    let Some(h) = stride::read_at(tp, from) else {
         return Met::Drops(12);
     };
     if stride::fits(h, room.len()) {
@@ -347,10 +313,10 @@ fn from_cut(
             word: walk::gather(tp, at, rest, have, word),
         });
     }
-    let Read::Whole(h) = wire::read_header(walk::gather(tp, at, missing, have, word)) else {
+    let Some(h) = wire::read_header(walk::gather(tp, at, missing, have, word)) else {
         return Met::Other;
     };
-    if missing + queue::least(h.size, rest - missing) != n {
+    if missing + h.size.min(rest - missing) != n {
         return Met::Other;
     }
     if h.content == 0 {
@@ -381,11 +347,11 @@ fn from_busy(
     ensures { SetAs result (L.Busy began left len content flips) n at tp.now room.old room.new }
 {
     let rest = tp.len() - at;
-    if queue::least(left, rest) != n {
+    if left.min(rest) != n {
         return Met::Other;
     }
     let end = at + n;
-    queue::move_at(room, len, &tp[at..end]);
+    queue::copy_at(room, len, &tp[at..end]);
     if rest < left {
         return Met::Ends(Lane::Busy {
             began,
@@ -447,7 +413,7 @@ pub fn set_out(lane: Lane, offset: usize, at: usize, tp: &[u8], room: &mut [u8])
         return Met::Other;
     }
     match outset::place_of(offset, at, tp.len()) {
-        Offset::Outside(number) => Met::Drops(number),
-        Offset::Behind(n) => from_lane(lane, n, at, tp, room),
+        Err(number) => Met::Drops(number),
+        Ok(n) => from_lane(lane, n, at, tp, room),
     }
 }

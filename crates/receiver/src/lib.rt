@@ -6,7 +6,6 @@ ghost use Rattle.receiver.specs.State.{Able};
 ghost use Rattle.receiver.specs.Call.{call_as, call_of, always, Gives, fresh_of, gap_of, pending_of, under_way, OpenedAs, data_of, lasts};
 ghost use Rattle.receiver.specs.Turn.{told_goes_on, TurnedAs};
 
-mod by_book;
 mod entry;
 mod judge;
 mod kind;
@@ -25,10 +24,10 @@ mod walk;
 pub mod words;
 
 use stages::{Course, Stamps};
-use walk::{Kept, Phase, Walk};
+use walk::{Phase, Walk};
 use wire::Header;
 
-// One call's answer. Document 01's number is 1 for Refused, and a notice's own.
+// One call's answer. Document 01's number is 1 for Refused, and a notice's own, which the listing prints and the C interface gives out.
 #[derive(Clone, Copy)]
 pub enum Find {
     Nothing,
@@ -55,14 +54,14 @@ pub enum Stage {
 }
 
 // By what a TP is known: its number, and the byte of a recording at which it stands, if that is told.
-#[derive(Clone, Copy)]
+#[derive(Clone, Copy, PartialEq, Eq)]
 pub struct Stamp {
     pub number: u64,
     pub byte: u64,
 }
 
 // A place of a TP's payload.
-#[derive(Clone, Copy)]
+#[derive(Clone, Copy, PartialEq, Eq)]
 pub struct Place {
     pub stamp: Stamp,
     pub at: usize,
@@ -101,25 +100,13 @@ pub struct Piece {
     pub role: Role,
 }
 
-// Whether a piece ends a call, and its find.
-#[derive(Clone, Copy)]
-pub enum Told {
-    More,
-    Gives(Find),
-}
-
+// `told` is the find of the call that the piece ends, if it ends one.
 #[derive(Clone, Copy)]
 pub struct Turned {
     pub receiver: Receiver,
     pub piece: Piece,
-    pub told: Told,
+    pub told: Option<Find>,
     pub about: About,
-}
-
-#[derive(Clone, Copy)]
-pub enum Opened {
-    Refused,
-    Ready(Receiver),
 }
 
 // What a find carries beside it: how many bits were repaired in the EP headers of a packet, and in its end byte if it is
@@ -128,13 +115,6 @@ pub enum Opened {
 pub struct About {
     pub repaired: u64,
     pub at: Place,
-}
-
-// Where what is unfinished began.
-#[derive(Clone, Copy)]
-pub enum Unfinished {
-    Nothing,
-    From(Place),
 }
 
 #[derive(Clone, Copy)]
@@ -159,27 +139,28 @@ fn fresh(size: usize, stream: u8, limit: usize, count: u64) -> Receiver
             at: 0,
             phase: Phase::Lost,
             began: stamps::start(stamps::own(0)),
-            kept: Kept::Empty,
+            kept: None,
         },
     }
 }
 
-pub fn open(tp: usize, stream: u8, room: &[u8]) -> Opened
+// None: a setting or the room outside its limits.
+pub fn open(tp: usize, stream: u8, room: &[u8]) -> Option<Receiver>
     ensures { OpenedAs tp stream (length room.now) result }
 {
     if tp < 16 {
-        return Opened::Refused;
+        return None;
     }
     if 2051 < tp {
-        return Opened::Refused;
+        return None;
     }
     if 15 < stream {
-        return Opened::Refused;
+        return None;
     }
     if 131072 < room.len() {
-        return Opened::Refused;
+        return None;
     }
-    Opened::Ready(fresh(tp, stream, room.len(), 0))
+    Some(fresh(tp, stream, room.len(), 0))
 }
 
 // The next find of the TP, by these stamps.
@@ -223,38 +204,28 @@ pub fn next_as(r: Receiver, stamp: Stamp, tp: &[u8], room: &mut [u8]) -> Step
 }
 
 // Where what is unfinished began: the packet that is kept, else the header or EP under way.
-pub fn pending(r: Receiver) -> Unfinished
+pub fn pending(r: Receiver) -> Option<Place>
     requires { Able r }
     ensures { result ≡ pending_of r.walk }
 {
-    let w = r.walk;
-    let kept = w.kept;
-    match kept {
-        Kept::Empty => under_way(w),
-        Kept::Of {
-            content: _,
-            repaired: _,
-            began,
-            len: _,
-        } => Unfinished::From(began),
+    match r.walk.kept {
+        None => under_way(r.walk),
+        Some(kept) => Some(kept.began),
     }
 }
 
-fn under_way(w: Walk) -> Unfinished
+fn under_way(w: Walk) -> Option<Place>
     ensures { result ≡ under_way w.phase w.began }
 {
-    let phase = w.phase;
-    let began = w.began;
-    match phase {
-        Phase::Lost => Unfinished::Nothing,
+    match w.phase {
+        Phase::Lost => None,
         Phase::Head { have, word: _ } => {
             if have == 0 {
-                return Unfinished::Nothing;
+                return None;
             }
-            Unfinished::From(began)
+            Some(w.began)
         }
-        Phase::Judged(_) => Unfinished::From(began),
-        Phase::Body { header: _, left: _ } => Unfinished::From(began),
+        Phase::Judged(_) | Phase::Body { header: _, left: _ } => Some(w.began),
     }
 }
 
@@ -263,15 +234,9 @@ pub fn lasts(find: Find) -> bool
     ensures { result ≡ lasts find }
 {
     match find {
-        Find::Nothing => false,
-        Find::Refused => false,
+        Find::Nothing | Find::Refused => false,
         Find::Notice(n) => 9 < n,
-        Find::Low {
-            content: _,
-            start: _,
-            len: _,
-        } => true,
-        Find::Ordinary { content: _, len: _ } => true,
+        Find::Low { .. } | Find::Ordinary { .. } => true,
     }
 }
 
@@ -283,8 +248,7 @@ pub fn turn(r: Receiver, tp: &[u8]) -> Turned
     if r.size != tp.len() {
         return pieces::same(r, 6);
     }
-    let stage = r.stage;
-    match stage {
+    match r.stage {
         Stage::Fresh => pieces::first(r, tp),
         Stage::Low(offset) => pieces::llep(r, offset, tp),
         Stage::Due(offset) => pieces::due(r, offset, tp),
@@ -293,12 +257,12 @@ pub fn turn(r: Receiver, tp: &[u8]) -> Turned
 }
 
 // Whether the same TP has more to give behind a turn.
-pub fn goes_on(told: Told) -> bool
+pub fn goes_on(told: Option<Find>) -> bool
     ensures { result ≡ told_goes_on told }
 {
     match told {
-        Told::More => true,
-        Told::Gives(find) => lasts(find),
+        None => true,
+        Some(find) => lasts(find),
     }
 }
 
@@ -314,8 +278,8 @@ pub fn gap(r: Receiver) -> Receiver
 fn part(s: &[u8], start: usize, len: usize) -> &[u8]
     ensures { result.now ≡ take len (drop start s.now) }
 {
-    let from = queue::least(start, s.len());
-    let end = from + queue::least(len, s.len() - from);
+    let from = start.min(s.len());
+    let end = from + len.min(s.len() - from);
     &s[from..end]
 }
 
@@ -324,9 +288,7 @@ pub fn found<'a>(tp: &'a [u8], room: &'a [u8], f: Find) -> &'a [u8]
     ensures { result.now ≡ data_of f tp.now room.now }
 {
     match f {
-        Find::Nothing => part(tp, 0, 0),
-        Find::Refused => part(tp, 0, 0),
-        Find::Notice(_) => part(tp, 0, 0),
+        Find::Nothing | Find::Refused | Find::Notice(_) => part(tp, 0, 0),
         Find::Low {
             content: _,
             start,

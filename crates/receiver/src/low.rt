@@ -6,15 +6,9 @@ ghost use Rattle.receiver.specs.Low.{ended, counting, sized, llep};
 ghost use Rattle.receiver.specs.Lows.{gives, gone_by, told_of, repaired_of, passed_of, one_of, lows_of};
 
 use crate::kind::Kind;
-use crate::{Find, Told, kind, stride};
+use crate::{Find, kind, stride};
 use golay::End;
-use wire::{Header, Read};
-
-#[derive(Clone, Copy)]
-pub enum Llep {
-    Broken,
-    Whole { header: Header, more: bool },
-}
+use wire::Header;
 
 // What a walk comes to: the broken place; the part's end; or a find, the total that it carries, its LLEP's place, whether
 // another LLEP follows, and the place behind it.
@@ -31,6 +25,7 @@ pub enum Lows {
     },
 }
 
+// What one LLEP comes to: the walk's end, or the place of the next. Neither is a failure, as one side of a Result would be.
 #[derive(Clone, Copy)]
 pub enum One {
     Stop(Lows),
@@ -43,51 +38,45 @@ fn counted(b: u8, header: Header) -> Header
     ensures { result ≡ counting b header }
 {
     Header {
-        content: header.content,
-        fragment: header.fragment,
-        size: header.size,
         flips: header.flips + golay::end_flips(b),
+        ..header
     }
 }
 
-fn ends(b: u8, header: Header) -> Llep
+// By its end byte: the header, and whether another LLEP follows.
+fn ends(b: u8, header: Header) -> Option<(Header, bool)>
     ensures { result ≡ ended (end_of b) header }
 {
     match golay::end_of(b) {
-        End::Zeros => Llep::Whole {
-            header,
-            more: false,
-        },
-        End::Ones => Llep::Whole { header, more: true },
-        End::Neither => Llep::Broken,
+        End::Zeros => Some((header, false)),
+        End::Ones => Some((header, true)),
+        End::Neither => None,
     }
 }
 
-fn closed(tp: &[u8], at: usize, header: Header) -> Llep
+fn closed(tp: &[u8], at: usize, header: Header) -> Option<(Header, bool)>
     requires { (at + 7 ≤ length tp.now) × (header.flips ≤ 8) }
     ensures { result ≡ sized header (drop at tp.now) }
 {
     let size = header.size;
     if tp.len() - at - 7 < size {
-        return Llep::Broken;
+        return None;
     }
     let last = at + 6 + size;
     let b = tp[last];
     ends(b, counted(b, header))
 }
 
-// The LLEP at `at`.
-pub fn item(tp: &[u8], at: usize) -> Llep
+// The header of the LLEP at `at`, if it isn't broken, and whether another LLEP follows.
+pub fn item(tp: &[u8], at: usize) -> Option<(Header, bool)>
     requires { at ≤ length tp.now }
     ensures { result ≡ llep (drop at tp.now) }
 {
     if tp.len() - at < 7 {
-        return Llep::Broken;
+        return None;
     }
-    match stride::read_at(tp, at) {
-        Read::Beyond => Llep::Broken,
-        Read::Whole(h) => closed(tp, at, h),
-    }
+    let header = stride::read_at(tp, at)?;
+    closed(tp, at, header)
 }
 
 fn gone(more: bool, end: usize) -> One
@@ -111,14 +100,14 @@ fn give(find: Find, repaired: u64, from: usize, more: bool, end: usize) -> One
     })
 }
 
-// What an LLEP that isn't broken tells: fill is silent; a reserved content or a fragment gives 16.
-pub fn told(header: Header, at: usize, len: usize) -> Told
+// The find of an LLEP that isn't broken: fill is silent; a reserved content or a fragment gives 16.
+pub fn told(header: Header, at: usize, len: usize) -> Option<Find>
     requires { at + 7 + header.size ≤ len }
     ensures { result ≡ told_of (kind_of header) header at }
 {
     match kind::kind_of(header) {
-        Kind::Fill => Told::More,
-        Kind::Reserved => Told::Gives(Find::Notice(16)),
+        Kind::Fill => None,
+        Kind::Reserved => Some(Find::Notice(16)),
         Kind::Complete => {
             let content = header.content;
             let start = at + 6;
@@ -128,11 +117,11 @@ pub fn told(header: Header, at: usize, len: usize) -> Told
                 start,
                 len,
             };
-            Told::Gives(find)
+            Some(find)
         }
-        Kind::First => Told::Gives(Find::Notice(16)),
-        Kind::Middle => Told::Gives(Find::Notice(16)),
-        Kind::Last => Told::Gives(Find::Notice(16)),
+        Kind::First => Some(Find::Notice(16)),
+        Kind::Middle => Some(Find::Notice(16)),
+        Kind::Last => Some(Find::Notice(16)),
     }
 }
 
@@ -141,12 +130,8 @@ pub fn repaired(header: Header) -> u64
     ensures { result ≡ repaired_of (kind_of header) header }
 {
     match kind::kind_of(header) {
-        Kind::Fill => 0,
-        Kind::Reserved => 0,
         Kind::Complete => header.flips as u64,
-        Kind::First => 0,
-        Kind::Middle => 0,
-        Kind::Last => 0,
+        Kind::Fill | Kind::Reserved | Kind::First | Kind::Middle | Kind::Last => 0,
     }
 }
 
@@ -157,8 +142,8 @@ fn passed(header: Header, more: bool, at: usize, len: usize) -> One
     let size = header.size;
     let end = at + 7 + size;
     match told(header, at, len) {
-        Told::More => gone(more, end),
-        Told::Gives(find) => give(find, repaired(header), at, more, end),
+        None => gone(more, end),
+        Some(find) => give(find, repaired(header), at, more, end),
     }
 }
 
@@ -167,8 +152,8 @@ fn single(tp: &[u8], at: usize) -> One
     ensures { result ≡ one_of (llep (drop at tp.now)) at }
 {
     match item(tp, at) {
-        Llep::Broken => One::Stop(Lows::Broken(at)),
-        Llep::Whole { header, more } => passed(header, more, at, tp.len()),
+        None => One::Stop(Lows::Broken(at)),
+        Some((header, more)) => passed(header, more, at, tp.len()),
     }
 }
 
@@ -178,11 +163,10 @@ pub fn walk(tp: &[u8], start: usize) -> Lows
     ensures { result ≡ lows_of tp.now start }
 {
     let mut at = start;
-    let out = loop {
+    loop {
         match single(tp, at) {
-            One::Stop(r) => break r,
+            One::Stop(lows) => return lows,
             One::More(i) => at = i,
         }
-    };
-    out
+    }
 }

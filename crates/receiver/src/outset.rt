@@ -7,7 +7,6 @@ ghost use Rattle.receiver.specs.InOutset.{behind_of, ahead_of};
 
 use crate::walk::{Phase, Walk};
 use crate::{Place, Stamp, stamps, walk};
-use wire::Read;
 
 // The forecast: out of step; a header beyond repair; bytes before the next EP's first one.
 #[derive(Clone, Copy)]
@@ -17,28 +16,14 @@ pub enum Fore {
     At(usize),
 }
 
-// Where the first EP that begins here stands: not among the bytes from here on, by this notice, or behind so many of them.
-#[derive(Clone, Copy)]
-pub enum Offset {
-    Outside(u8),
-    Behind(usize),
-}
-
-// What the forecast decides: the walk to read on with, or the notice that puts out of step.
-#[derive(Clone, Copy)]
-pub enum Start {
-    Reads(Walk),
-    Loses(u8),
-}
-
 // Behind a header read on for the forecast only, of which `missing` bytes stand here.
 fn behind(word: u64, missing: usize, rest: usize) -> Fore
     requires { missing ≤ rest }
     ensures { result ≡ behind_of (header_in word) missing rest }
 {
     match wire::read_header(word) {
-        Read::Beyond => Fore::Bad,
-        Read::Whole(h) => Fore::At(missing + queue::least(h.size, rest - missing)),
+        None => Fore::Bad,
+        Some(h) => Fore::At(missing + h.size.min(rest - missing)),
     }
 }
 
@@ -64,26 +49,26 @@ fn forecast(tp: &[u8], at: usize, phase: Phase) -> Fore
     match phase {
         Phase::Lost => Fore::Off,
         Phase::Head { have, word } => ahead(tp, at, have, word),
-        Phase::Judged(h) => Fore::At(queue::least(h.size, tp.len() - at)),
-        Phase::Body { header: _, left } => Fore::At(queue::least(left, tp.len() - at)),
+        Phase::Judged(h) => Fore::At(h.size.min(tp.len() - at)),
+        Phase::Body { header: _, left } => Fore::At(left.min(tp.len() - at)),
     }
 }
 
-// 10 if the offset points past the payload, 21 if before the low-latency part's end.
-pub fn place_of(offset: usize, at: usize, len: usize) -> Offset
+// Behind how many bytes the first EP that begins here stands; notice 10 if the offset points past the payload, 21 if before the low-latency part's end.
+pub fn place_of(offset: usize, at: usize, len: usize) -> Result<usize, u8>
     requires { (offset < 2048) × (at ≤ len) }
     ensures { result ≡ place_of offset at len }
 {
     if offset == 2047 {
-        return Offset::Behind(len - at);
+        return Ok(len - at);
     }
     if len <= offset + 4 {
-        return Offset::Outside(10);
+        return Err(10);
     }
     if offset + 4 < at {
-        return Offset::Outside(21);
+        return Err(21);
     }
-    Offset::Behind(offset + 4 - at)
+    Ok(offset + 4 - at)
 }
 
 // In step from an offset on, if there is one.
@@ -106,32 +91,28 @@ pub fn lost_at(number: u8, stamp: Stamp, began: Place) -> Place
     stamps::start(stamp)
 }
 
-// Sets about a TP's ordinary bytes, of which n stand before the first EP that begins here.
-pub fn set_out(w: Walk, n: usize, tp: &[u8]) -> Start
+// Sets about a TP's ordinary bytes, of which n stand before the first EP that begins here: the walk to read on with, or the notice that puts out of
+// step.
+pub fn set_out(w: Walk, n: usize, tp: &[u8]) -> Result<Walk, u8>
     requires { (w.at + n ≤ length tp.now) × Settled w.phase }
     ensures { result ≡ set_out_of w n tp.now }
 {
-    let at = w.at;
-    let phase = w.phase;
-    let began = w.began;
-    let kept = w.kept;
-    let start = at + n;
-    match forecast(tp, at, phase) {
+    let start = w.at + n;
+    match forecast(tp, w.at, w.phase) {
         Fore::Off => {
-            let there = upon(start, tp.len());
-            Start::Reads(Walk {
+            let phase = upon(start, tp.len());
+            Ok(Walk {
                 at: start,
-                phase: there,
-                began,
-                kept,
+                phase,
+                ..w
             })
         }
-        Fore::Bad => Start::Loses(12),
+        Fore::Bad => Err(12),
         Fore::At(k) => {
             if k == n {
-                return Start::Reads(w);
+                return Ok(w);
             }
-            Start::Loses(13)
+            Err(13)
         }
     }
 }

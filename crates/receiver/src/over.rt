@@ -67,17 +67,13 @@ pub fn is_over(r: Receiver, tp: &[u8], room: usize) -> bool
     if tp.len() < 10 {
         return false;
     }
-    let w = r.walk;
-    let phase = w.phase;
-    if !is_void(phase, tp) {
+    if !is_void(r.walk.phase, tp) {
         return false;
     }
-    let stage = r.stage;
-    let Stage::Fresh = stage else {
+    let Stage::Fresh = r.stage else {
         return false;
     };
-    let kept = w.kept;
-    let Kept::Empty = kept else {
+    let None = r.walk.kept else {
         return false;
     };
     if tp.len() != r.size {
@@ -97,22 +93,11 @@ pub fn is_over(r: Receiver, tp: &[u8], room: usize) -> bool
 pub fn behind(r: Receiver) -> Receiver
     ensures { result ≡ over_of r }
 {
-    let w = r.walk;
-    let phase = w.phase;
-    let began = w.began;
-    let kept = w.kept;
     Receiver {
-        size: r.size,
-        stream: r.stream,
-        limit: r.limit,
         count: stamps::counted(r.count),
         stage: Stage::Fresh,
-        walk: Walk {
-            at: 0,
-            phase,
-            began,
-            kept,
-        },
+        walk: Walk { at: 0, ..r.walk },
+        ..r
     }
 }
 
@@ -125,19 +110,10 @@ pub fn is_data(r: Receiver, tp: &[u8], room: usize) -> bool
     if tp.len() < 10 {
         return false;
     }
-    let w = r.walk;
-    let phase = w.phase;
-    let Phase::Body { header: _, left } = phase else {
+    let Phase::Body { header: _, left } = r.walk.phase else {
         return false;
     };
-    let kept = w.kept;
-    let Kept::Of {
-        content: _,
-        repaired: _,
-        began: _,
-        len: _,
-    } = kept
-    else {
+    let Some(_) = r.walk.kept else {
         return false;
     };
     if left <= tp.len() - 4 {
@@ -146,8 +122,7 @@ pub fn is_data(r: Receiver, tp: &[u8], room: usize) -> bool
     if !wire::says_no_start(entry::tp_word(tp)) {
         return false;
     }
-    let stage = r.stage;
-    let Stage::Fresh = stage else {
+    let Stage::Fresh = r.stage else {
         return false;
     };
     if tp.len() != r.size {
@@ -169,46 +144,27 @@ pub fn taken(r: Receiver, tp: &[u8], room: &mut [u8]) -> Receiver
     ensures value { result ≡ taken_of r (length tp.now - 4) }
     ensures room_after { room.new ≡ put_of r tp.now room.old }
 {
-    let w = r.walk;
-    let phase = w.phase;
-    let kept = w.kept;
-    let began = w.began;
-    let Phase::Body { header, left } = phase else {
+    let Phase::Body { header, left } = r.walk.phase else {
         return r;
     };
-    let Kept::Of {
-        content,
-        repaired,
-        began: first,
-        len,
-    } = kept
-    else {
+    let Some(kept) = r.walk.kept else {
         return r;
     };
     let n = tp.len() - 4;
-    queue::copy_at(room, len, &tp[4..]);
+    queue::copy_at(room, kept.len, &tp[4..]);
     let phase = Phase::Body {
         header,
         left: left - n,
     };
-    let kept = Kept::Of {
-        content,
-        repaired,
-        began: first,
-        len: len + n,
+    let kept = Some(Kept {
+        len: kept.len + n,
+        ..kept
+    });
+    let next = behind(r);
+    let walk = Walk {
+        phase,
+        kept,
+        ..next.walk
     };
-    let stage = Stage::Fresh;
-    Receiver {
-        size: r.size,
-        stream: r.stream,
-        limit: r.limit,
-        count: stamps::counted(r.count),
-        stage,
-        walk: Walk {
-            at: 0,
-            phase,
-            began,
-            kept,
-        },
-    }
+    Receiver { walk, ..next }
 }

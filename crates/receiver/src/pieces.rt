@@ -1,6 +1,5 @@
 // One piece of a transport packet, with no room: its header; an LLEP; the outset; a header or a run of data.
 ghost use Rattle.std.specs.Prelude.{◌≡◌, ◌+◌, ◌≤◌, ◌<◌, length, drop};
-ghost use Rattle.receiver.specs.declared.low.Llep.TheVariants as L;
 ghost use Rattle.receiver.specs.State.{Sound, Settled};
 ghost use Rattle.receiver.specs.Low.{llep};
 ghost use Rattle.receiver.specs.Turns.{advance_of};
@@ -9,41 +8,36 @@ ghost use Rattle.receiver.specs.Pieces.{top_of, piece_of, read_of, gave_of, went
 ghost use Rattle.receiver.specs.Place.{own_of};
 
 use crate::entry::Top;
-use crate::low::Llep;
-use crate::outset::{Offset, Start};
 use crate::walk::{Kept, Phase, Turn, Walk};
 use crate::{
-    About, Find, Piece, Place, Receiver, Role, Stage, Step, Told, Turned, entry, low, outset,
-    stages, stamps, walk,
+    About, Find, Piece, Place, Receiver, Role, Stage, Step, Turned, entry, low, outset, stages,
+    stamps, walk,
 };
 use wire::Header;
 
 fn gave(step: Step, piece: Piece) -> Turned
     ensures { result ≡ gave_of step piece }
 {
-    let receiver = step.receiver;
-    let find = step.find;
-    let about = step.about;
     Turned {
-        receiver,
+        receiver: step.receiver,
         piece,
-        told: Told::Gives(find),
-        about,
+        told: Some(step.find),
+        about: step.about,
     }
 }
 
-fn went(r: Receiver, stage: Stage, walk: Walk, piece: Piece, told: Told, about: About) -> Turned
+fn went(
+    r: Receiver,
+    stage: Stage,
+    walk: Walk,
+    piece: Piece,
+    told: Option<Find>,
+    about: About,
+) -> Turned
     ensures { result ≡ went_of r stage walk piece told about }
 {
     Turned {
-        receiver: Receiver {
-            size: r.size,
-            stream: r.stream,
-            limit: r.limit,
-            count: r.count,
-            stage,
-            walk,
-        },
+        receiver: Receiver { stage, walk, ..r },
         piece,
         told,
         about,
@@ -58,7 +52,7 @@ fn on(r: Receiver, stage: Stage, walk: Walk, piece: Piece) -> Turned
         repaired: 0,
         at: stamps::start(stamps::own(r.count)),
     };
-    went(r, stage, walk, piece, Told::More, about)
+    went(r, stage, walk, piece, None, about)
 }
 
 fn piece_of(from: usize, to: usize, role: Role) -> Piece
@@ -84,27 +78,18 @@ pub fn first(r: Receiver, tp: &[u8]) -> Turned
     requires { 4 ≤ length tp.now }
     ensures { result ≡ top_turn (top_of r.stream tp.now) r (length tp.now) }
 {
-    let w = r.walk;
-    let phase = w.phase;
-    let began = w.began;
-    let kept = w.kept;
     match entry::read_top(r.stream, tp) {
         Top::Elsewhere => same(r, 8),
         Top::Dropped(number) => {
             let c = stages::counted(r);
             let find = Find::Notice(number);
             let place = stamps::start(stamps::own(c.count));
-            let step = stages::step_to(c, Stage::Fresh, 0, Phase::Lost, Kept::Empty, find, place);
+            let step = stages::step_to(c, Stage::Fresh, 0, Phase::Lost, None, find, place);
             gave(step, piece_of(4, tp.len(), Role::Passed))
         }
         Top::Says { low, offset } => {
             let stage = stages::low_stage(low, offset);
-            let there = Walk {
-                at: 4,
-                phase,
-                began,
-                kept,
-            };
+            let there = Walk { at: 4, ..r.walk };
             on(
                 stages::counted(r),
                 stage,
@@ -122,29 +107,20 @@ fn drop_rest(r: Receiver, len: usize, role: Role, number: u8, place: Place) -> T
     let w = r.walk;
     let at = w.at;
     let find = Find::Notice(number);
-    let step = stages::step_to(r, Stage::Plain, len, Phase::Lost, Kept::Empty, find, place);
+    let step = stages::step_to(r, Stage::Plain, len, Phase::Lost, None, find, place);
     gave(step, piece_of(at, len, role))
 }
 
 // An LLEP that isn't broken.
 fn behind(r: Receiver, offset: usize, header: Header, more: bool, len: usize) -> Turned
     requires { r.walk.at + 7 + header.size ≤ len }
-    ensures { result ≡ llep_turn (L.Whole header more) r offset len }
+    ensures { result ≡ llep_turn (Some (header, more)) r offset len }
 {
     let w = r.walk;
     let at = w.at;
-    let phase = w.phase;
-    let began = w.began;
-    let kept = w.kept;
-    let size = header.size;
-    let end = at + 7 + size;
+    let end = at + 7 + header.size;
     let stage = stages::low_stage(more, offset);
-    let there = Walk {
-        at: end,
-        phase,
-        began,
-        kept,
-    };
+    let there = Walk { at: end, ..w };
     let told = low::told(header, at, len);
     let about = About {
         repaired: low::repaired(header),
@@ -165,14 +141,13 @@ pub fn llep(r: Receiver, offset: usize, tp: &[u8]) -> Turned
     requires { r.walk.at ≤ length tp.now }
     ensures { result ≡ llep_turn (llep (drop r.walk.at tp.now)) r offset (length tp.now) }
 {
-    let w = r.walk;
-    let at = w.at;
+    let at = r.walk.at;
     match low::item(tp, at) {
-        Llep::Broken => {
+        None => {
             let place = stamps::of(stamps::own(r.count), at);
             drop_rest(r, tp.len(), Role::Broken, 11, place)
         }
-        Llep::Whole { header, more } => behind(r, offset, header, more, tp.len()),
+        Some((header, more)) => behind(r, offset, header, more, tp.len()),
     }
 }
 
@@ -185,13 +160,13 @@ fn set_about(r: Receiver, n: usize, tp: &[u8]) -> Turned
     let at = w.at;
     let began = w.began;
     match outset::set_out(w, n, tp) {
-        Start::Reads(x) => on(r, Stage::Plain, x, piece_of(at, x.at, Role::Passed)),
-        Start::Loses(number) => {
+        Ok(x) => on(r, Stage::Plain, x, piece_of(at, x.at, Role::Passed)),
+        Err(number) => {
             let start = at + n;
             let there = outset::upon(start, tp.len());
             let find = Find::Notice(number);
             let place = outset::lost_at(number, stamps::own(r.count), began);
-            let step = stages::step_to(r, Stage::Plain, start, there, Kept::Empty, find, place);
+            let step = stages::step_to(r, Stage::Plain, start, there, None, find, place);
             gave(step, piece_of(at, start, Role::Passed))
         }
     }
@@ -202,14 +177,12 @@ pub fn due(r: Receiver, offset: usize, tp: &[u8]) -> Turned
     requires { (offset < 2048) × (r.walk.at ≤ length tp.now) × Settled r.walk.phase }
     ensures { result ≡ due_turn (place_of offset r.walk.at (length tp.now)) r tp.now }
 {
-    let w = r.walk;
-    let at = w.at;
-    match outset::place_of(offset, at, tp.len()) {
-        Offset::Outside(number) => {
+    match outset::place_of(offset, r.walk.at, tp.len()) {
+        Err(number) => {
             let place = stamps::start(stamps::own(r.count));
             drop_rest(r, tp.len(), Role::Passed, number, place)
         }
-        Offset::Behind(n) => set_about(r, n, tp),
+        Ok(n) => set_about(r, n, tp),
     }
 }
 
@@ -219,32 +192,25 @@ fn head_role(phase: Phase) -> Role
     match phase {
         Phase::Lost => Role::Broken,
         Phase::Head { have: _, word: _ } => Role::Cut,
-        Phase::Judged(h) => Role::Whole(h),
-        Phase::Body { header: h, left: _ } => Role::Whole(h),
+        Phase::Judged(h) | Phase::Body { header: h, left: _ } => Role::Whole(h),
     }
 }
 
-fn data_role(kept: Kept) -> Role
+fn data_role(kept: Option<Kept>) -> Role
     ensures { result ≡ data_role kept }
 {
     match kept {
-        Kept::Empty => Role::Skipped,
-        Kept::Of {
-            content: _,
-            repaired: _,
-            began: _,
-            len,
-        } => Role::Kept(len),
+        None => Role::Skipped,
+        Some(k) => Role::Kept(k.len),
     }
 }
 
-fn role_of(phase: Phase, kept: Kept, behind: Phase) -> Role
+fn role_of(phase: Phase, kept: Option<Kept>, behind: Phase) -> Role
     ensures { result ≡ role_of phase kept behind }
 {
     match phase {
-        Phase::Lost => Role::Passed,
+        Phase::Lost | Phase::Judged(_) => Role::Passed,
         Phase::Head { have: _, word: _ } => head_role(behind),
-        Phase::Judged(_) => Role::Passed,
         Phase::Body { header: _, left: _ } => data_role(kept),
     }
 }
@@ -252,10 +218,7 @@ fn role_of(phase: Phase, kept: Kept, behind: Phase) -> Role
 fn read(w: Walk, x: Walk) -> Piece
     ensures { result ≡ read_of w x }
 {
-    let phase = w.phase;
-    let kept = w.kept;
-    let behind = x.phase;
-    piece_of(w.at, x.at, role_of(phase, kept, behind))
+    piece_of(w.at, x.at, role_of(w.phase, w.kept, x.phase))
 }
 
 // A header or what there is of it, or a run of data.

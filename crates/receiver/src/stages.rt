@@ -2,7 +2,6 @@
 ghost use Rattle.std.specs.Prelude.{◌≡◌, cond, ◌+◌, ◌≤◌, ◌<◌, length};
 ghost use Rattle.receiver.specs.declared.Find.TheVariants as F;
 ghost use Rattle.receiver.specs.declared.Stage.TheVariants.{Low, Due, Plain};
-ghost use Rattle.receiver.specs.declared.walk.Kept.TheVariants.{Empty};
 ghost use Rattle.receiver.specs.declared.walk.Phase.TheVariants.{Lost};
 ghost use Rattle.receiver.specs.declared.low.Lows.TheVariants as L;
 ghost use Rattle.receiver.specs.declared.stages.Course.TheVariants as C;
@@ -14,11 +13,11 @@ ghost use Rattle.receiver.specs.InStages.{Lent, Leads, set_call, part_call};
 
 use crate::entry::Begun;
 use crate::low::Lows;
-use crate::outset::{Offset, Start};
 use crate::walk::{Answer, Gain, Kept, Phase, Walk};
 use crate::{About, Find, Place, Receiver, Stage, Stamp, Step, entry, judge, low, outset, stamps};
 
-// What a stage comes to, whatever room is lent: its find, or the walk to read on with up to the next one.
+// What a stage comes to, whatever room is lent: its find, or the walk to read on with up to the next one. Neither is a failure, as one side of
+// a Result would be.
 #[derive(Clone, Copy)]
 pub enum Course {
     Gives(Step),
@@ -38,9 +37,7 @@ fn raised(stage: Stage, count: u64) -> u64
 {
     match stage {
         Stage::Fresh => stamps::counted(count),
-        Stage::Low(_) => count,
-        Stage::Due(_) => count,
-        Stage::Plain => count,
+        Stage::Low(_) | Stage::Due(_) | Stage::Plain => count,
     }
 }
 
@@ -48,15 +45,9 @@ fn raised(stage: Stage, count: u64) -> u64
 pub fn counted(r: Receiver) -> Receiver
     ensures { result ≡ counted_of r }
 {
-    let stage = r.stage;
-    let walk = r.walk;
     Receiver {
-        size: r.size,
-        stream: r.stream,
-        limit: r.limit,
-        count: raised(stage, r.count),
-        stage,
-        walk,
+        count: raised(r.stage, r.count),
+        ..r
     }
 }
 
@@ -76,14 +67,7 @@ fn step_with(r: Receiver, stage: Stage, walk: Walk, found: Find, about: About) -
     ensures { result ≡ step_with r stage walk found about }
 {
     Step {
-        receiver: Receiver {
-            size: r.size,
-            stream: r.stream,
-            limit: r.limit,
-            count: r.count,
-            stage,
-            walk,
-        },
+        receiver: Receiver { stage, walk, ..r },
         find: found,
         about,
     }
@@ -95,19 +79,17 @@ pub fn step_to(
     stage: Stage,
     at: usize,
     phase: Phase,
-    kept: Kept,
+    kept: Option<Kept>,
     find: Find,
     place: Place,
 ) -> Step
     ensures { result ≡ step_of r stage at phase kept find place }
 {
-    let w = r.walk;
-    let began = w.began;
     let walk = Walk {
         at,
         phase,
-        began,
         kept,
+        ..r.walk
     };
     let about = About {
         repaired: 0,
@@ -135,18 +117,9 @@ pub fn tell(r: Receiver, stamp: Stamp, a: Answer) -> Step
     ensures { result ≡ tell_of a.gain r stamp a.walk }
 {
     let w = a.walk;
-    let phase = w.phase;
-    let began = w.began;
-    let kept = w.kept;
-    let gain = a.gain;
-    match gain {
+    match a.gain {
         Gain::Nothing => {
-            let walk = Walk {
-                at: 0,
-                phase,
-                began,
-                kept,
-            };
+            let walk = Walk { at: 0, ..w };
             let about = About {
                 repaired: 0,
                 at: stamps::start(stamp),
@@ -156,7 +129,7 @@ pub fn tell(r: Receiver, stamp: Stamp, a: Answer) -> Step
         Gain::Notice(n) => {
             let about = About {
                 repaired: 0,
-                at: began,
+                at: w.began,
             };
             step_with(r, Stage::Plain, w, Find::Notice(n), about)
         }
@@ -178,11 +151,9 @@ pub fn tell(r: Receiver, stamp: Stamp, a: Answer) -> Step
 
 // Out of step, the rest of the TP dropped.
 fn drop_rest(r: Receiver, len: usize, number: u8, place: Place) -> Course
-    ensures { result ≡ C.Gives (step_of r Plain len Lost Empty (F.Notice number) place) }
+    ensures { result ≡ C.Gives (step_of r Plain len Lost None (F.Notice number) place) }
 {
-    let w = r.walk;
-    let kept = w.kept;
-    let none = judge::emptied(kept);
+    let none = judge::emptied(r.walk.kept);
     let find = Find::Notice(number);
     Course::Gives(step_to(r, Stage::Plain, len, Phase::Lost, none, find, place))
 }
@@ -192,24 +163,15 @@ fn set_about(r: Receiver, at: usize, n: usize, stamp: Stamp, tp: &[u8]) -> Cours
     requires { (at + n ≤ length tp.now) × Lent r at tp.now }
     ensures { Leads (set_call r stamp at n tp.now) r stamp tp.now result }
 {
-    let w = r.walk;
-    let phase = w.phase;
-    let began = w.began;
-    let kept = w.kept;
-    let walk = Walk {
-        at,
-        phase,
-        began,
-        kept,
-    };
+    let walk = Walk { at, ..r.walk };
     match outset::set_out(walk, n, tp) {
-        Start::Reads(x) => Course::Reads(x),
-        Start::Loses(number) => {
+        Ok(x) => Course::Reads(x),
+        Err(number) => {
             let start = at + n;
             let there = outset::upon(start, tp.len());
             let find = Find::Notice(number);
-            let place = outset::lost_at(number, stamp, began);
-            let none = judge::emptied(kept);
+            let place = outset::lost_at(number, stamp, walk.began);
+            let none = judge::emptied(walk.kept);
             Course::Gives(step_to(r, Stage::Plain, start, there, none, find, place))
         }
     }
@@ -221,8 +183,8 @@ fn due(r: Receiver, offset: usize, at: usize, stamp: Stamp, tp: &[u8]) -> Course
     ensures { Leads (due_call r stamp offset at tp.now) r stamp tp.now result }
 {
     match outset::place_of(offset, at, tp.len()) {
-        Offset::Outside(number) => drop_rest(r, tp.len(), number, stamps::start(stamp)),
-        Offset::Behind(n) => set_about(r, at, n, stamp, tp),
+        Err(number) => drop_rest(r, tp.len(), number, stamps::start(stamp)),
+        Ok(n) => set_about(r, at, n, stamp, tp),
     }
 }
 
@@ -250,10 +212,6 @@ fn part(r: Receiver, low: bool, offset: usize, at: usize, stamp: Stamp, tp: &[u8
     requires { (offset < 2048) × Lent r at tp.now }
     ensures { Leads (part_call low r stamp offset at tp.now) r stamp tp.now result }
 {
-    let w = r.walk;
-    let phase = w.phase;
-    let began = w.began;
-    let kept = w.kept;
     match low_walk(low, tp, at) {
         Lows::Broken(i) => drop_rest(r, tp.len(), 11, stamps::of(stamp, i)),
         Lows::End(i) => due(r, offset, i, stamp, tp),
@@ -265,12 +223,7 @@ fn part(r: Receiver, low: bool, offset: usize, at: usize, stamp: Stamp, tp: &[u8
             end,
         } => {
             let stage = low_stage(more, offset);
-            let there = Walk {
-                at: end,
-                phase,
-                began,
-                kept,
-            };
+            let there = Walk { at: end, ..r.walk };
             let about = About {
                 repaired,
                 at: stamps::of(stamp, from),
@@ -285,10 +238,9 @@ pub fn take_up(r: Receiver, t: Stamps, tp: &[u8]) -> Course
     requires { Able r × (length tp.now ≡ r.size) }
     ensures { Leads (stage_call r.stage r (counted_of r) t tp.now) (counted_of r) t.now tp.now result }
 {
-    let w = r.walk;
     match entry::begin(r, t, tp) {
         Begun::Gives(step) => Course::Gives(step),
         Begun::Part { low, offset, at } => part(counted(r), low, offset, at, t.now, tp),
-        Begun::Plain => Course::Reads(w),
+        Begun::Plain => Course::Reads(r.walk),
     }
 }

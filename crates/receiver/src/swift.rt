@@ -1,21 +1,20 @@
 // A call on a receiver's words, where it stands in a lane with nothing kept, or before a TP in data that are kept: only the words
 // that it needs are read. Any other receiver, and whatever is to be judged, is left as it was to a call by value.
-ghost use Rattle.std.specs.Prelude.{◌≡◌, true, cond, ◌≤◌, ◌<◌, length, get_or};
+ghost use Rattle.std.specs.Prelude.{◌≡◌, true, ◌≤◌, ◌<◌, length, get_or, IfSome};
 ghost use Rattle.receiver.specs.declared.Find.TheVariants as F;
-ghost use Rattle.receiver.specs.declared.Stage.TheVariants.{Low, Due};
-ghost use Rattle.receiver.specs.declared.swift.Swift.TheVariants as S;
 ghost use Rattle.receiver.specs.Place.{own_of, start_of};
 ghost use Rattle.receiver.specs.Pieces.{none_of, top_of};
 ghost use Rattle.receiver.specs.Words.{Bytes, fitb, receiver_in, stage_words, words_of};
 ghost use Rattle.receiver.specs.Lanes.{Tidy, in_lane};
-ghost use Rattle.receiver.specs.InSwift.{Lent, Busy, BehindAs, hands_of, SwiftAs, made_of, between_at, Stands, LaneAs, count_by, first_spot, plain_spot, GoesAs, PartAs, LowPartAs, ToldAs, DueAs, OnAs, TidyMet, BehindMet};
+ghost use Rattle.receiver.specs.InSwift.{Lent, Busy, Behind, hands_of, told, SwiftAs, made_of, between_at, Stands, LaneAs, count_by, first_spot, plain_spot, GoesAs, PartAs, LowPartAs, ToldAs, DueAs, OnAs, TidyMet, BehindMet};
 
 use crate::entry::Top;
 use crate::kind::Kind;
 use crate::lane::{Lane, Lows, Met};
-use crate::outset::Offset;
 use crate::walk::{Kept, Phase, Walk};
-use crate::{About, Find, Place, Receiver, Stage, Stamp, entry, kind, lane, outset, stamps, words};
+use crate::{
+    About, Find, Place, Receiver, Stage, Stamp, entry, kind, lane, outset, stages, stamps, words,
+};
 use wire::Header;
 
 // Where a call goes on in a TP: it is left to a call by value; its header drops it; it is over, out of step; in the low-latency part; behind it;
@@ -30,41 +29,32 @@ pub enum Spot {
     Plain(usize),
 }
 
-// Before ordinary bytes: a find, or where it goes on.
+// Before ordinary bytes: what the call gives, or where it goes on. Neither is a failure, as one side of a Result would be.
 #[derive(Clone, Copy)]
 pub enum Part {
-    Told(Swift),
+    Told(Option<Swift>),
     On(Spot),
 }
 
-// Left to a call by value, or the find and what it carries.
+// The find of a call on words, and what it carries. A call that gives none is left to one by value.
 #[derive(Clone, Copy)]
-pub enum Swift {
-    Other,
-    Gives { find: Find, about: About },
+pub struct Swift {
+    pub find: Find,
+    pub about: About,
 }
 
 // How many bytes stand before the first EP that begins in a TP without low-latency part.
-#[derive(Clone, Copy)]
-pub enum Begun {
-    Other,
-    Behind(usize),
-}
-
-pub fn begin(stream: u8, tp: &[u8]) -> Begun
+pub fn begin(stream: u8, tp: &[u8]) -> Option<usize>
     requires { 4 ≤ length tp.now }
-    ensures { BehindAs result stream tp.now }
+    ensures { IfSome result (Behind stream tp.now) }
 {
     let Top::Says { low, offset } = entry::read_top(stream, tp) else {
-        return Begun::Other;
+        return None;
     };
     if low {
-        return Begun::Other;
+        return None;
     }
-    match outset::place_of(offset, 4, tp.len()) {
-        Offset::Outside(_) => Begun::Other,
-        Offset::Behind(n) => Begun::Behind(n),
-    }
+    outset::place_of(offset, 4, tp.len()).ok()
 }
 
 // The words of a receiver of r's settings.
@@ -73,12 +63,10 @@ pub fn put(w: &mut [u64; 23], r: Receiver, count: u64, stage: Stage, walk: Walk)
     ensures bytes { Bytes (made_of r count stage walk) }
 {
     *w = words::words_of(Receiver {
-        size: r.size,
-        stream: r.stream,
-        limit: r.limit,
         count,
         stage,
         walk,
+        ..r
     });
 }
 
@@ -90,20 +78,18 @@ pub fn between(at: usize) -> Walk
         at,
         phase: Phase::Head { have: 0, word: 0 },
         began: stamps::start(stamps::own(0)),
-        kept: Kept::Empty,
+        kept: None,
     }
 }
 
 // None: the TP is done.
-pub fn nothing(count: u64) -> Swift
-    ensures { result ≡ S.Gives F.Nothing (none_of (start_of (own_of count))) }
+pub fn nothing(count: u64) -> Option<Swift>
+    ensures { result ≡ told F.Nothing (none_of (start_of (own_of count))) }
 {
     let at = stamps::start(stamps::own(count));
     let about = About { repaired: 0, at };
-    Swift::Gives {
-        find: Find::Nothing,
-        about,
-    }
+    let find = Find::Nothing;
+    Some(Swift { find, about })
 }
 
 // Whether an EP's end hands out what is kept.
@@ -120,67 +106,51 @@ fn hands(h: Header) -> bool
     }
 }
 
-// What is kept, by its parts.
-#[derive(Clone, Copy)]
-pub struct Held {
-    content: u8,
-    repaired: u64,
-    began: Place,
-    len: usize,
-}
-
 // Before a TP, in data that are kept, of which so many are left.
 fn busy_next(
     w: &mut [u64; 23],
     r: Receiver,
     header: Header,
     left: usize,
-    held: Held,
+    held: Kept,
     tp: &[u8],
     room: &mut [u8],
-) -> Swift
+) -> Option<Swift>
     requires { Lent r tp.now × Busy r header left held.content held.repaired held.began held.len × (length room.old ≡ r.limit) }
     ensures { SwiftAs result r w.old tp.now room.old w.new room.new }
 {
-    let Begun::Behind(n) = begin(r.stream, tp) else {
-        return Swift::Other;
-    };
+    let n = begin(r.stream, tp)?;
     let rest = tp.len() - 4;
-    if queue::least(left, rest) != n {
-        return Swift::Other;
+    if left.min(rest) != n {
+        return None;
     }
     let count = stamps::counted(r.count);
     let first = held.began;
     let len = held.len;
     let end = 4 + n;
     if rest < left {
-        queue::move_at(room, len, &tp[4..end]);
-        let v = r.walk;
-        let began = v.began;
-        let kept = Kept::Of {
-            content: held.content,
-            repaired: held.repaired,
-            began: first,
+        queue::copy_at(room, len, &tp[4..end]);
+        let kept = Some(Kept {
             len: len + rest,
-        };
-        let remains = left - rest;
+            ..held
+        });
         let phase = Phase::Body {
             header,
-            left: remains,
+            left: left - rest,
         };
         let walk = Walk {
             at: 0,
             phase,
-            began,
             kept,
+            ..r.walk
         };
         put(w, r, count, Stage::Fresh, walk);
         return nothing(count);
     }
     if !hands(header) {
-        return Swift::Other;
+        return None;
     }
-    queue::move_at(room, len, &tp[4..end]);
+    queue::copy_at(room, len, &tp[4..end]);
     put(w, r, count, Stage::Plain, between(end));
     let find = Find::Ordinary {
         content: held.content,
@@ -190,38 +160,20 @@ fn busy_next(
         repaired: held.repaired,
         at: first,
     };
-    Swift::Gives { find, about }
+    Some(Swift { find, about })
 }
 
-fn busy(w: &mut [u64; 23], r: Receiver, tp: &[u8], room: &mut [u8]) -> Swift
+fn busy(w: &mut [u64; 23], r: Receiver, tp: &[u8], room: &mut [u8]) -> Option<Swift>
     requires { Lent r tp.now × (length room.old ≡ r.limit) }
     ensures { SwiftAs result r w.old tp.now room.old w.new room.new }
 {
-    let v = r.walk;
-    let stage = r.stage;
-    let phase = v.phase;
-    let kept = v.kept;
-    let Stage::Fresh = stage else {
-        return Swift::Other;
+    let Stage::Fresh = r.stage else {
+        return None;
     };
-    let Phase::Body { header, left } = phase else {
-        return Swift::Other;
+    let Phase::Body { header, left } = r.walk.phase else {
+        return None;
     };
-    let Kept::Of {
-        content,
-        repaired,
-        began,
-        len,
-    } = kept
-    else {
-        return Swift::Other;
-    };
-    let held = Held {
-        content,
-        repaired,
-        began,
-        len,
-    };
+    let held = r.walk.kept?;
     busy_next(w, r, header, left, held, tp, room)
 }
 
@@ -337,12 +289,12 @@ fn count_in(w: &[u64; 23]) -> u64
     w[3]
 }
 
-fn notice(number: u8, at: Place) -> Swift
-    ensures { result ≡ S.Gives (F.Notice number) (none_of at) }
+fn notice(number: u8, at: Place) -> Option<Swift>
+    ensures { result ≡ told (F.Notice number) (none_of at) }
 {
     let about = About { repaired: 0, at };
     let find = Find::Notice(number);
-    Swift::Gives { find, about }
+    Some(Swift { find, about })
 }
 
 // Sort and offset.
@@ -459,15 +411,6 @@ fn put_lane(w: &mut [u64; 23], count: u64, lane: Lane, stage: Stage, place: usiz
     }
 }
 
-fn low_stage(more: bool, offset: usize) -> Stage
-    ensures { result ≡ cond more (Low offset) (Due offset) }
-{
-    if more {
-        return Stage::Low(offset);
-    }
-    Stage::Due(offset)
-}
-
 // The next find of the low-latency part.
 fn low_next(w: &mut [u64; 23], lane: Lane, offset: usize, at: usize, count: u64, tp: &[u8]) -> Part
     requires { (fitb w.old ≡ true) × Tidy (receiver_in w.old).limit lane × (length tp.now ≡ (receiver_in w.old).size) × (4 ≤ at) × (at ≤ length tp.now) × (offset < 2048) }
@@ -487,12 +430,12 @@ fn low_next(w: &mut [u64; 23], lane: Lane, offset: usize, at: usize, count: u64,
             more,
             end,
         } => {
-            put_lane(w, count, lane, low_stage(more, offset), end);
+            put_lane(w, count, lane, stages::low_stage(more, offset), end);
             let about = About {
                 repaired,
                 at: stamps::of(stamp, from),
             };
-            Part::Told(Swift::Gives { find, about })
+            Part::Told(Some(Swift { find, about }))
         }
     }
 }
@@ -504,7 +447,7 @@ fn before(w: &mut [u64; 23], lane: Lane, count: u64, tp: &[u8]) -> Part
 {
     let spot = spot_of(w, lane, tp);
     match spot {
-        Spot::Other => Part::Told(Swift::Other),
+        Spot::Other => Part::Told(None),
         Spot::Gone(number) => {
             put_lane(w, count, Lane::Lost, Stage::Fresh, 0);
             Part::Told(notice(number, stamps::start(stamps::own(count))))
@@ -544,15 +487,15 @@ fn ahead(met: Met, count: u64, tp: &[u8], room: &mut [u8]) -> Met
 }
 
 // Behind what is met.
-fn met_in(w: &mut [u64; 23], met: Met, count: u64, len: usize) -> Swift
+fn met_in(w: &mut [u64; 23], met: Met, count: u64, len: usize) -> Option<Swift>
     requires { (fitb w.old ≡ true) × TidyMet (receiver_in w.old).limit met }
     ensures { BehindMet result met (receiver_in w.old) count len w.old w.new }
 {
     match met {
-        Met::Other => Swift::Other,
+        Met::Other => None,
         Met::Drops(number) => {
             if number == 12 {
-                return Swift::Other;
+                return None;
             }
             put_lane(w, count, Lane::Lost, Stage::Plain, len);
             notice(number, stamps::start(stamps::own(count)))
@@ -561,7 +504,7 @@ fn met_in(w: &mut [u64; 23], met: Met, count: u64, len: usize) -> Swift
             put_lane(w, count, lane, Stage::Fresh, 0);
             nothing(count)
         }
-        Met::Reads(_) => Swift::Other,
+        Met::Reads(_) => None,
         Met::Gives {
             content,
             repaired,
@@ -575,13 +518,13 @@ fn met_in(w: &mut [u64; 23], met: Met, count: u64, len: usize) -> Swift
                 repaired,
                 at: began,
             };
-            Swift::Gives { find, about }
+            Some(Swift { find, about })
         }
     }
 }
 
 // In a lane.
-fn laned(w: &mut [u64; 23], lane: Lane, tp: &[u8], room: &mut [u8]) -> Swift
+fn laned(w: &mut [u64; 23], lane: Lane, tp: &[u8], room: &mut [u8]) -> Option<Swift>
     requires { (fitb w.old ≡ true) × Stands lane (receiver_in w.old) × (length tp.now ≡ (receiver_in w.old).size) × (length room.old ≡ (receiver_in w.old).limit) }
     ensures { SwiftAs result (receiver_in w.old) w.old tp.now room.old w.new room.new }
 {
@@ -597,7 +540,7 @@ fn laned(w: &mut [u64; 23], lane: Lane, tp: &[u8], room: &mut [u8]) -> Swift
 }
 
 // The next find of the low-latency part, in which the words stand. The lane is asked for behind the walk, so that it isn't carried through it.
-fn low_again(w: &mut [u64; 23], tp: &[u8]) -> Swift
+fn low_again(w: &mut [u64; 23], tp: &[u8]) -> Option<Swift>
     requires { (fitb w.old ≡ true) × (get_or w.old 5 0 ≡ 1) × (length tp.now ≡ (receiver_in w.old).size) }
     ensures { ToldAs result (receiver_in w.old) tp.now w.old w.new }
 {
@@ -609,36 +552,36 @@ fn low_again(w: &mut [u64; 23], tp: &[u8]) -> Swift
         end,
     } = lane::lows(tp, w[4] as usize)
     else {
-        return Swift::Other;
+        return None;
     };
     let lane = lane_in(w);
     if let Lane::Other = lane {
-        return Swift::Other;
+        return None;
     }
     let count = w[3];
-    let stage = low_stage(more, w[6] as usize);
+    let stage = stages::low_stage(more, w[6] as usize);
     put_lane(w, count, lane, stage, end);
     let about = About {
         repaired,
         at: stamps::of(stamps::own(count), from),
     };
-    Swift::Gives { find, about }
+    Some(Swift { find, about })
 }
 
 // The next find of the TP.
-pub fn next(w: &mut [u64; 23], tp: &[u8], room: &mut [u8]) -> Swift
+pub fn next(w: &mut [u64; 23], tp: &[u8], room: &mut [u8]) -> Option<Swift>
     requires { fitb w.old ≡ true }
     ensures { SwiftAs result (receiver_in w.old) w.old tp.now room.old w.new room.new }
 {
     if room.len() as u64 != w[2] {
-        return Swift::Other;
+        return None;
     }
     if tp.len() as u64 != w[0] {
-        return Swift::Other;
+        return None;
     }
     if w[5] == 1 {
-        if let Swift::Gives { find, about } = low_again(w, tp) {
-            return Swift::Gives { find, about };
+        if let Some(swift) = low_again(w, tp) {
+            return Some(swift);
         }
     }
     let lane = lane_in(w);
@@ -646,7 +589,7 @@ pub fn next(w: &mut [u64; 23], tp: &[u8], room: &mut [u8]) -> Swift
         if is_busy(w) {
             return busy(w, words::receiver_in(w), tp, room);
         }
-        return Swift::Other;
+        return None;
     }
     laned(w, lane, tp, room)
 }

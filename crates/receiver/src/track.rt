@@ -2,24 +2,19 @@
 // What no track covers is left to a call.
 ghost use Rattle.std.specs.Prelude.{◌≡◌, cond, false, ◌⊎◌, ◌+◌, ◌-◌, ◌≤◌, ◌<◌, ◌^◌, leb, length, take, drop};
 ghost use Rattle.digits.specs.Digits.{number};
-ghost use Rattle.golay.specs.Book.{Book};
-ghost use Rattle.wire.specs.Reading.{header_in, read_of};
-ghost use Rattle.wire.specs.declared.Read.TheVariants.{Beyond};
+ghost use Rattle.wire.specs.Reading.{header_in};
 ghost use Rattle.receiver.specs.State.{Able, Settled};
 ghost use Rattle.receiver.specs.declared.lane.Lane.TheVariants as L;
-ghost use Rattle.receiver.specs.declared.walk.Kept.TheVariants.{Empty};
 ghost use Rattle.receiver.specs.Turns.{walk_at};
-ghost use Rattle.receiver.specs.Lanes.{in_lane, top_in};
+ghost use Rattle.receiver.specs.Lanes.{in_lane};
 ghost use Rattle.receiver.specs.InTracks.{UnkeptAs, KeptAs, sight_of};
 ghost use Rattle.receiver.specs.Tracks.{Placed, place_in, lane_in, Kempt, turned_of, TracksAs, Seen, BehindAs, SetsOut, BriefAs, DroppedAs, FilledIf};
 
-pub use crate::entry::Top;
 use crate::lane::Lane;
-use crate::low::Llep;
-use crate::walk::{Kept, Phase};
-use crate::{Place, Receiver, Stage, Stamp, by_book, entry, lane, low, over, stamps, stride, walk};
+use crate::walk::Phase;
+use crate::{Place, Receiver, Stage, Stamp, entry, lane, low, over, stamps, stride, walk};
 use golay::End;
-use wire::{Header, Read, TpWord};
+use wire::{Header, TpWord};
 
 // The sorts of a track: those of a lane, and none.
 pub const LOST: usize = 0;
@@ -124,60 +119,43 @@ fn place_of(t: Track) -> Place
 pub fn turned(t: Track, sort: usize) -> Track
     ensures { result ≡ turned_of t sort }
 {
-    Track {
-        sort,
-        number: t.number,
-        byte: t.byte,
-        begun: t.begun,
-        have: t.have,
-        word: t.word,
-        left: t.left,
-        len: t.len,
-        content: t.content,
-        flips: t.flips,
-    }
+    Track { sort, ..t }
 }
 
 fn cut(t: Track, began: Place, have: usize, word: u64) -> Track
     ensures { (lane_in result ≡ L.Cut began have word) × (result.flips ≡ t.flips) × (result.sort ≡ 2) }
 {
-    let stamp = began.stamp;
     Track {
         sort: CUT,
-        number: stamp.number,
-        byte: stamp.byte,
+        number: began.stamp.number,
+        byte: began.stamp.byte,
         begun: began.at,
         have,
         word,
-        left: t.left,
-        len: t.len,
-        content: t.content,
-        flips: t.flips,
+        ..t
     }
 }
 
 fn busy(t: Track, began: Place, left: usize, len: usize, content: usize, flips: usize) -> Track
     ensures { (lane_in result ≡ L.Busy began left len content flips) × (result.flips ≡ flips) × (result.sort ≡ 3) }
 {
-    let stamp = began.stamp;
     Track {
         sort: BUSY,
-        number: stamp.number,
-        byte: stamp.byte,
+        number: began.stamp.number,
+        byte: began.stamp.byte,
         begun: began.at,
-        have: t.have,
-        word: t.word,
         left,
         len,
         content,
         flips,
+        ..t
     }
 }
 
 // With nothing kept.
 fn unkept(phase: Phase, began: Place) -> Track
     requires { Settled phase }
-    ensures { UnkeptAs result (walk_at 0 phase began Empty) }
+    ensures { UnkeptAs result (walk_at 0 phase began None) }
 {
     match phase {
         Phase::Lost => plain(LOST),
@@ -187,8 +165,7 @@ fn unkept(phase: Phase, began: Place) -> Track
             }
             cut(plain(CUT), began, have, word)
         }
-        Phase::Judged(_) => plain(NONE),
-        Phase::Body { header: _, left: _ } => plain(NONE),
+        Phase::Judged(_) | Phase::Body { .. } => plain(NONE),
     }
 }
 
@@ -212,25 +189,16 @@ pub fn of(r: Receiver) -> Track
     requires { Able r × Placed r }
     ensures { TracksAs result r }
 {
-    let stage = r.stage;
-    let Stage::Fresh = stage else {
+    let Stage::Fresh = r.stage else {
         return plain(NONE);
     };
     let w = r.walk;
     if w.at != 0 {
         return plain(NONE);
     }
-    let phase = w.phase;
-    let began = w.began;
-    let kept = w.kept;
-    match kept {
-        Kept::Empty => unkept(phase, began),
-        Kept::Of {
-            content: _,
-            repaired: _,
-            began: _,
-            len,
-        } => kept_of(phase, began, len, r.limit),
+    match w.kept {
+        None => unkept(w.phase, w.began),
+        Some(kept) => kept_of(w.phase, w.began, kept.len, r.limit),
     }
 }
 
@@ -294,17 +262,16 @@ fn unseen(sort: usize, from: usize) -> Sight
 }
 
 // What stands ahead of `start`, behind fill.
-pub fn ahead(book: &[u16; 8192], start: usize, tp: &[u8], most: usize) -> Sight
-    requires book { Book book.now }
-    requires start_in_bounds { start ≤ length tp.now }
+pub fn ahead(start: usize, tp: &[u8], most: usize) -> Sight
+    requires { start ≤ length tp.now }
     ensures { Seen result start tp.now most }
 {
-    let from = by_book::past_fill(book, tp, start);
+    let from = stride::past_fill(tp, start);
     let rest = tp.len() - from;
     if rest < 6 {
         return unseen(TAIL, from);
     }
-    let Read::Whole(h) = by_book::read_at(book, tp, from) else {
+    let Some(h) = stride::read_at(tp, from) else {
         return unseen(OFF, from);
     };
     if !stride::fits(h, most) {
@@ -387,32 +354,24 @@ fn from_busy(t: Track, offset: usize, here: usize, tp: &[u8], room: &mut [u8]) -
 }
 
 // The header that is cut, whole, if data follow it.
-fn head(book: &[u16; 8192], t: Track, here: usize, tp: &[u8]) -> Read
-    requires book { Book book.now }
-    requires le_have { (1 ≤ t.have) × (t.have ≤ 5) × (t.word < 256 ^ t.have) × (here ≤ length tp.now) }
-    ensures { result ≡ cond (leb (length tp.now - here) (6 - t.have)) Beyond (read_of (header_in (number t.word (take (6 - t.have) (drop here tp.now))))) }
+fn head(t: Track, here: usize, tp: &[u8]) -> Option<Header>
+    requires { (1 ≤ t.have) × (t.have ≤ 5) × (t.word < 256 ^ t.have) × (here ≤ length tp.now) }
+    ensures { result ≡ cond (leb (length tp.now - here) (6 - t.have)) None (header_in (number t.word (take (6 - t.have) (drop here tp.now)))) }
 {
     let have = t.have;
     let missing = 6 - have;
     if tp.len() - here <= missing {
-        return Read::Beyond;
+        return None;
     }
-    wire::book::read_header(book, walk::gather(tp, here, missing, have, t.word))
+    wire::read_header(walk::gather(tp, here, missing, have, t.word))
 }
 
 // A cut header is read on.
-fn from_cut(
-    book: &[u16; 8192],
-    t: Track,
-    offset: usize,
-    here: usize,
-    tp: &[u8],
-    room: &mut [u8],
-) -> Onto
-    requires { Kempt (length room.old) t × (t.sort ≡ 2) × (offset < 2048) × (here ≤ length tp.now) × (length tp.now ≤ 2051) × Book book.now }
+fn from_cut(t: Track, offset: usize, here: usize, tp: &[u8], room: &mut [u8]) -> Onto
+    requires { Kempt (length room.old) t × (t.sort ≡ 2) × (offset < 2048) × (here ≤ length tp.now) × (length tp.now ≤ 2051) }
     ensures { SetsOut result t offset here tp.now room.old room.new }
 {
-    let Read::Whole(h) = head(book, t, here, tp) else {
+    let Some(h) = head(t, here, tp) else {
         return out_with(OFF, 0, t);
     };
     let start = here + 6 - t.have;
@@ -456,15 +415,8 @@ fn from_cut(
 
 // Sets about a TP's ordinary bytes, from `here` on. In a TP of more than 2051 bytes offset 2047, by which no EP begins, would be a place;
 // at the payload's end none begins.
-pub fn set_out(
-    book: &[u16; 8192],
-    t: Track,
-    offset: usize,
-    here: usize,
-    tp: &[u8],
-    room: &mut [u8],
-) -> Onto
-    requires { Kempt (length room.old) t × (t.sort ≤ 3) × (offset < 2048) × (4 ≤ here) × (here ≤ length tp.now) × (length tp.now ≤ 131072) × Book book.now }
+pub fn set_out(t: Track, offset: usize, here: usize, tp: &[u8], room: &mut [u8]) -> Onto
+    requires { Kempt (length room.old) t × (t.sort ≤ 3) × (offset < 2048) × (4 ≤ here) × (here ≤ length tp.now) × (length tp.now ≤ 131072) }
     ensures { SetsOut result t offset here tp.now room.old room.new }
 {
     if 2051 < tp.len() {
@@ -492,7 +444,7 @@ pub fn set_out(
     if t.sort == BUSY {
         return from_busy(t, offset, here, tp, room);
     }
-    from_cut(book, t, offset, here, tp, room)
+    from_cut(t, offset, here, tp, room)
 }
 
 fn llep_of(found: bool, more: bool, h: Header) -> Brief
@@ -518,15 +470,14 @@ fn no_brief() -> Brief
 }
 
 // The LLEP at `at`, if it is a packet.
-pub fn llep_at(book: &[u16; 8192], tp: &[u8], at: usize) -> Brief
-    requires book { Book book.now }
-    requires at_in_bounds { at ≤ length tp.now }
+pub fn llep_at(tp: &[u8], at: usize) -> Brief
+    requires { at ≤ length tp.now }
     ensures { BriefAs result.found result tp.now at }
 {
     if tp.len() - at < 7 {
         return no_brief();
     }
-    let Read::Whole(h) = by_book::read_at(book, tp, at) else {
+    let Some(h) = stride::read_at(tp, at) else {
         return no_brief();
     };
     if tp.len() - at - 7 < h.size {
@@ -552,8 +503,8 @@ pub fn llep_at(book: &[u16; 8192], tp: &[u8], at: usize) -> Brief
 
 // Out of step, what a TP comes to in which no EP begins: 1 for nothing, or its notice; 0 where it is to be read. The code word of 2047 leaves at
 // once.
-pub fn dropped(book: &[u16; 8192], r: Receiver, tp: &[u8]) -> usize
-    requires { Able r × Book book.now }
+pub fn dropped(r: Receiver, tp: &[u8]) -> usize
+    requires { Able r }
     ensures { DroppedAs result r tp.now }
 {
     if tp.len() != r.size {
@@ -566,11 +517,11 @@ pub fn dropped(book: &[u16; 8192], r: Receiver, tp: &[u8]) -> usize
     if w == wire::NO_START {
         return 1;
     }
-    let TpWord::Says { low, offset } = wire::book::read_tp_word(book, w) else {
+    let Some(TpWord { low, offset }) = wire::read_tp_word(w) else {
         return 9;
     };
     if low {
-        if let Llep::Broken = low::item(tp, 4) {
+        if low::item(tp, 4).is_none() {
             return 11;
         }
         return 0;
@@ -602,26 +553,4 @@ pub fn is_fill(r: Receiver, tp: &[u8]) -> bool
         return false;
     }
     digits::from_three(tp[7], tp[8], tp[9]) == golay::encode((tp.len() - 10) as u16)
-}
-
-// What a TP's header says: of another stream, or the TP of another length; not to be read; or its flag and its offset.
-pub fn top(book: &[u16; 8192], r: Receiver, tp: &[u8]) -> Top
-    requires book { Book book.now }
-    requires able { Able r }
-    ensures { result ≡ top_in r tp.now }
-{
-    if tp.len() != r.size {
-        return Top::Elsewhere;
-    }
-    let b = tp[0];
-    if b / 16 != r.stream {
-        return Top::Elsewhere;
-    }
-    if b % 4 != 0 {
-        return Top::Dropped(7);
-    }
-    match wire::book::read_tp_word(book, entry::tp_word(tp)) {
-        TpWord::Beyond => Top::Dropped(9),
-        TpWord::Says { low, offset } => Top::Says { low, offset },
-    }
 }

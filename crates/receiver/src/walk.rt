@@ -18,17 +18,14 @@ pub enum Phase {
     Body { header: Header, left: usize },
 }
 
-// What is kept at the room's start: a packet of this content, in the headers of whose EPs so many bits were repaired, and
-// where it began. Inside an EP nothing kept means that it is passed over.
+// What is kept at the room's start: so many bytes of a packet of this content, in the headers of whose EPs so many bits were repaired, and where it
+// began. Inside an EP nothing kept means that it is passed over.
 #[derive(Clone, Copy)]
-pub enum Kept {
-    Empty,
-    Of {
-        content: u8,
-        repaired: u64,
-        began: Place,
-        len: usize,
-    },
+pub struct Kept {
+    pub content: u8,
+    pub repaired: u64,
+    pub began: Place,
+    pub len: usize,
 }
 
 // `began` is the place of the header or EP under way; where there is none, nobody reads it.
@@ -37,7 +34,7 @@ pub struct Walk {
     pub at: usize,
     pub phase: Phase,
     pub began: Place,
-    pub kept: Kept,
+    pub kept: Option<Kept>,
 }
 
 // A notice is of the EP under way.
@@ -59,16 +56,11 @@ pub struct Answer {
     pub gain: Gain,
 }
 
+// A turn behind which reading goes on, or the last one. Neither is a failure, as one side of a Result would be.
 #[derive(Clone, Copy)]
 pub enum Turn {
     More(Walk),
     Stop(Answer),
-}
-
-fn wide(b: u8) -> u64
-    ensures { result ≡ b }
-{
-    b as u64
 }
 
 // The number of n bytes behind those of word, of which there are have.
@@ -77,10 +69,8 @@ pub fn gather(tp: &[u8], at: usize, n: usize, have: usize, word: u64) -> u64
     ensures { result ≡ number word (take n (drop at tp.now)) }
 {
     let mut w = word;
-    let mut i = 0;
-    while i < n {
-        w = w * 256 + wide(tp[at + i]);
-        i += 1;
+    for i in 0..n {
+        w = w * 256 + tp[at + i] as u64;
     }
     w
 }
@@ -113,7 +103,7 @@ fn header(
     have: usize,
     word: u64,
     began: Place,
-    kept: Kept,
+    kept: Option<Kept>,
     cap: usize,
 ) -> Turn
     requires have_bound { (have ≤ 5) × (word < 256 ^ have) × (at ≤ length tp.now) }
@@ -134,28 +124,19 @@ fn header(
 }
 
 // What is kept, with n bytes more.
-fn grown(n: usize, kept: Kept) -> Kept
+fn grown(n: usize, kept: Option<Kept>) -> Option<Kept>
     requires { Counts kept n }
     ensures { result ≡ grown_by n kept }
 {
-    match kept {
-        Kept::Empty => kept,
-        Kept::Of {
-            content,
-            repaired,
-            began,
-            len,
-        } => Kept::Of {
-            content,
-            repaired,
-            began,
-            len: len + n,
-        },
-    }
+    let k = kept?;
+    Some(Kept {
+        len: k.len + n,
+        ..k
+    })
 }
 
 // Reading an EP's data on.
-fn body(tp: &[u8], at: usize, header: Header, left: usize, began: Place, kept: Kept) -> Turn
+fn body(tp: &[u8], at: usize, header: Header, left: usize, began: Place, kept: Option<Kept>) -> Turn
     requires { (at ≤ length tp.now) × Counts kept left }
     ensures { result ≡ body_turn tp.now at header left began kept }
 {
@@ -190,11 +171,10 @@ pub fn advance(w: Walk, stamp: Stamp, tp: &[u8], cap: usize) -> Turn
     ensures { result ≡ advance_of cap stamp w tp.now }
 {
     let at = w.at;
-    let phase = w.phase;
     let began = w.began;
     let kept = w.kept;
-    match phase {
-        Phase::Lost => judge::stop(tp.len(), phase, began, kept, Gain::Nothing),
+    match w.phase {
+        Phase::Lost => judge::stop(tp.len(), w.phase, began, kept, Gain::Nothing),
         Phase::Head { have, word } => {
             let first = begun(stamp, at, have, began);
             header(tp, at, have, word, first, kept, cap)
@@ -205,21 +185,16 @@ pub fn advance(w: Walk, stamp: Stamp, tp: &[u8], cap: usize) -> Turn
 }
 
 // n bytes of an EP's data, into the room if they are kept.
-fn put(tp: &[u8], at: usize, n: usize, kept: Kept, room: &mut [u8])
+fn put(tp: &[u8], at: usize, n: usize, kept: Option<Kept>, room: &mut [u8])
     requires n_in_bounds { at + n ≤ length tp.now }
     requires roomy { Roomy (length room.old) kept n }
     ensures { room.new ≡ pasted kept room.old (drop at tp.now) n }
 {
     match kept {
-        Kept::Empty => {}
-        Kept::Of {
-            content: _,
-            repaired: _,
-            began: _,
-            len,
-        } => {
+        None => {}
+        Some(k) => {
             let end = at + n;
-            queue::move_at(room, len, &tp[at..end]);
+            queue::copy_at(room, k.len, &tp[at..end]);
         }
     }
 }
@@ -229,19 +204,10 @@ fn advance_in(w: Walk, stamp: Stamp, tp: &[u8], room: &mut [u8]) -> Turn
     requires { Sound (length room.old) (length tp.now) w }
     ensures { (result ≡ advance_of (length room.old) stamp w tp.now) × (room.new ≡ room_of w tp.now room.old) }
 {
-    let at = w.at;
-    let phase = w.phase;
-    let began = w.began;
-    let kept = w.kept;
-    match phase {
-        Phase::Lost => {}
-        Phase::Head { have: _, word: _ } => {}
-        Phase::Judged(_) => {}
-        Phase::Body { header: h, left } => {
-            let n = queue::least(left, tp.len() - at);
-            put(tp, at, n, kept, room);
-            return body(tp, at, h, left, began, kept);
-        }
+    if let Phase::Body { header, left } = w.phase {
+        let n = left.min(tp.len() - w.at);
+        put(tp, w.at, n, w.kept, room);
+        return body(tp, w.at, header, left, w.began, w.kept);
     }
     advance(w, stamp, tp, room.len())
 }
@@ -252,14 +218,13 @@ pub fn onward(start: Walk, stamp: Stamp, tp: &[u8], room: &mut [u8]) -> Answer
     ensures { Ends (length room.old) stamp start tp.now room.old result room.new }
 {
     let mut w = start;
-    let out = loop {
+    loop {
         match stride::on(w, stamp, tp, room) {
-            Turn::Stop(a) => break a,
+            Turn::Stop(a) => return a,
             Turn::More(q) => match advance_in(q, stamp, tp, room) {
                 Turn::More(x) => w = x,
-                Turn::Stop(a) => break a,
+                Turn::Stop(a) => return a,
             },
         }
-    };
-    out
+    }
 }

@@ -5,7 +5,7 @@ ghost use Rattle.receiver.specs.InSeries.{SeriesAs};
 
 pub use crate::swift::Swift;
 use crate::walk::{Kept, Phase, Walk};
-use crate::{Opened, Place, Receiver, Stage, Stamp, series, swift};
+use crate::{Place, Receiver, Stage, Stamp, series, swift};
 use wire::Header;
 
 pub fn wide(b: u8) -> u64
@@ -79,26 +79,21 @@ fn phase_words(p: Phase, began: Place) -> [u64; 9]
     }
 }
 
-fn kept_words(k: Kept) -> [u64; 7]
+fn kept_words(k: Option<Kept>) -> [u64; 7]
     ensures { (result ≡ kept_words k) × KeptBytes k }
 {
     match k {
-        Kept::Empty => [0, 0, 0, 0, 0, 0, 0],
-        Kept::Of {
-            content,
-            repaired,
-            began,
-            len,
-        } => {
-            let t = began.stamp;
+        None => [0, 0, 0, 0, 0, 0, 0],
+        Some(k) => {
+            let t = k.began.stamp;
             [
                 1,
-                wide(content),
-                repaired,
-                len as u64,
+                wide(k.content),
+                k.repaired,
+                k.len as u64,
                 t.number,
                 t.byte,
-                began.at as u64,
+                k.began.at as u64,
             ]
         }
     }
@@ -107,14 +102,10 @@ fn kept_words(k: Kept) -> [u64; 7]
 pub fn words_of(r: Receiver) -> [u64; 23]
     ensures { (result ≡ words_of r) × Bytes r }
 {
-    let stage = r.stage;
     let w = r.walk;
-    let phase = w.phase;
-    let began = w.began;
-    let kept = w.kept;
-    let s = stage_words(stage);
-    let p = phase_words(phase, began);
-    let k = kept_words(kept);
+    let s = stage_words(r.stage);
+    let p = phase_words(w.phase, w.began);
+    let k = kept_words(w.kept);
     [
         r.size as u64,
         wide(r.stream),
@@ -190,18 +181,18 @@ fn place_in(number: u64, byte: u64, at: u64) -> Place
     }
 }
 
-fn kept_in(sort: u64, content: u64, repaired: u64, len: u64, began: Place) -> Kept
+fn kept_in(sort: u64, content: u64, repaired: u64, len: u64, began: Place) -> Option<Kept>
     ensures { result ≡ kept_in sort content repaired len began }
 {
     if sort == 0 {
-        return Kept::Empty;
+        return None;
     }
-    Kept::Of {
+    Some(Kept {
         content: narrow(content),
         repaired,
         began,
         len: len as usize,
-    }
+    })
 }
 
 // The receiver that words would be those of, if they are any's.
@@ -229,31 +220,17 @@ pub fn receiver_in(w: &[u64; 23]) -> Receiver
 }
 
 // Within the limits of an opening, and the place within the TP.
+#[tactic(auto, unfolding(crate::specs::Words::openedb))]
 fn is_opened(size: u64, stream: u64, limit: u64, at: u64) -> bool
     ensures { result ≡ openedb size stream limit at }
 {
-    if size < 16 {
-        return false;
-    }
-    if 2051 < size {
-        return false;
-    }
-    if 15 < stream {
-        return false;
-    }
-    if 131072 < limit {
-        return false;
-    }
-    at <= size
+    16 <= size && size <= 2051 && stream <= 15 && limit <= 131072 && at <= size
 }
 
 fn is_begun(offset: u64, at: u64) -> bool
     ensures { result ≡ begunb offset at }
 {
-    if 2047 < offset {
-        return false;
-    }
-    4 <= at
+    offset <= 2047 && 4 <= at
 }
 
 fn is_staged(sort: u64, offset: u64, at: u64) -> bool
@@ -274,10 +251,7 @@ fn is_staged(sort: u64, offset: u64, at: u64) -> bool
 fn is_within(len: u64, n: u64, cap: u64) -> bool
     ensures { result ≡ leb (len + n) cap }
 {
-    if cap < len {
-        return false;
-    }
-    n <= cap - len
+    len <= cap && n <= cap - len
 }
 
 fn is_roomy(cap: u64, sort: u64, len: u64, n: u64) -> bool
@@ -311,10 +285,7 @@ fn bound(have: u64) -> u64
 fn is_under_way(stage: u64, left: u64) -> bool
     ensures { result ≡ (eqb stage 3 || ltb 0 left) }
 {
-    if stage == 3 {
-        return true;
-    }
-    0 < left
+    stage == 3 || 0 < left
 }
 
 fn is_phased(stage: u64, sort: u64, a: u64, b: u64, left: u64) -> bool
@@ -329,10 +300,10 @@ fn is_phased(stage: u64, sort: u64, a: u64, b: u64, left: u64) -> bool
     if 3 < sort {
         return false;
     }
-    if sort == 3 {
-        return is_under_way(stage, left);
+    if sort == 2 {
+        return stage == 3;
     }
-    stage == 3
+    is_under_way(stage, left)
 }
 
 // The bytes that an EP under way still brings.
@@ -345,19 +316,14 @@ fn left_in(sort: u64, left: u64) -> u64
     left
 }
 
+#[tactic(auto, unfolding(crate::specs::Words::fitb))]
 fn is_fit(w: &[u64; 23]) -> bool
     ensures { result ≡ fitb w.now }
 {
-    if !is_opened(w[0], w[1], w[2], w[4]) {
-        return false;
-    }
-    if !is_staged(w[5], w[6], w[4]) {
-        return false;
-    }
-    if !is_phased(w[5], w[7], w[8], w[9], w[12]) {
-        return false;
-    }
-    is_roomy(w[2], w[16], w[19], left_in(w[7], w[12]))
+    is_opened(w[0], w[1], w[2], w[4])
+        && is_staged(w[5], w[6], w[4])
+        && is_phased(w[5], w[7], w[8], w[9], w[12])
+        && is_roomy(w[2], w[16], w[19], left_in(w[7], w[12]))
 }
 
 // Out of step, between two EPs or in a header.
@@ -371,48 +337,40 @@ fn is_dataless(sort: u64, have: u64, word: u64) -> bool
 }
 
 // Whether words of an opened receiver have nothing kept and no data under way, as most calls find them; they fit then.
+#[tactic(auto, unfolding(crate::specs::Words::bareb))]
 fn is_bare(w: &[u64; 23]) -> bool
     ensures { result ≡ bareb w.now }
 {
-    if w[16] != 0 {
-        return false;
-    }
-    if !is_dataless(w[7], w[8], w[9]) {
-        return false;
-    }
-    if !is_staged(w[5], w[6], w[4]) {
-        return false;
-    }
-    is_opened(w[0], w[1], w[2], w[4])
+    w[16] == 0
+        && is_dataless(w[7], w[8], w[9])
+        && is_staged(w[5], w[6], w[4])
+        && is_opened(w[0], w[1], w[2], w[4])
 }
 
 // The same as `is_fit`; bare words leave at once.
 pub fn can_be_called(w: &[u64; 23]) -> bool
     ensures { result ≡ fitb w.now }
 {
-    if is_bare(w) {
-        return true;
-    }
-    is_fit(w)
+    is_bare(w) || is_fit(w)
 }
 
 // The receiver whose words these are.
-pub fn of_words(w: &[u64; 23]) -> Opened
+pub fn of_words(w: &[u64; 23]) -> Option<Receiver>
     ensures { (result ≡ of_words w.now) × FitIf result }
 {
     if is_fit(w) {
-        return Opened::Ready(receiver_in(w));
+        return Some(receiver_in(w));
     }
-    Opened::Refused
+    None
 }
 
 // The next find of the TP of words that fit; or the same call, from further on, is left to `receiver::next`.
-pub fn next(w: &mut [u64; 23], tp: &[u8], room: &mut [u8]) -> Swift
+pub fn next(w: &mut [u64; 23], tp: &[u8], room: &mut [u8]) -> Option<Swift>
     requires { fitb w.old ≡ true }
     ensures { SeriesAs result (receiver_in w.old) tp.now room.old w.new room.new }
 {
     match swift::next(w, tp, room) {
-        Swift::Gives { find, about } => Swift::Gives { find, about },
-        Swift::Other => series::next(w, tp, room),
+        Some(swift) => Some(swift),
+        None => series::next(w, tp, room),
     }
 }

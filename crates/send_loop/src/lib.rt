@@ -2,172 +2,140 @@
 // programs'). A refused offer is skipped, and told on standard error.
 #![tactic(auto)]
 
-ghost use Rattle.std.specs.Prelude.{◌≡◌, ◌+◌, ◌≤◌, ◌<◌, length};
-ghost use Rattle.house.specs.Records.{length_of};
+ghost use Rattle.std.specs.Prelude.{◌≡◌, ◌≤◌, take, drop, length, IfSome, IfOk};
+ghost use Rattle.console.specs.Taking.{Whole};
+ghost use Rattle.house.specs.Records.{record_bytes};
+ghost use Rattle.house.specs.declared.Place.TheVariants as P;
+ghost use Rattle.house.specs.declared.Record.TheVariants as R;
 ghost use Rattle.sender.specs.Opening.{Sound};
 ghost use Rattle.sending.specs.Turn.{turn_of};
-ghost use Rattle.send_loop.specs.Running.{Ready, Ahead, Sent};
+ghost use Rattle.send_loop.specs.Running.{Ready, Sent};
+ghost use Rattle.send_loop.specs.Whole.{Comes, Went};
 
-use console::{BLOCKS, FULL, More, Start, Unread};
-use house::{AtHand, Fault, Place, Record, Setup};
-use sender::{Answer, Sender};
+use console::{Console, FULL, Program, Refused, SIZE, Taken};
+use house::{Fault, Place, Record, Setup};
+use sender::{Refusal, Sender};
 
-// Between two records: the sender, how much of the output block is held, where in the input block the last record began and the
-// next one begins, and the number of the last one's refusal, or 0.
-#[derive(Clone, Copy)]
-struct Run {
+// Between two records: the sender with its TP length and its queues, and how much of the output block is held.
+#[derive(Drop)]
+struct Sending {
     sender: Sender,
+    tp: usize,
+    low: [u8; 32768],
+    ordinary: [u8; 32768],
+    out: [u8; 65536],
     at: usize,
-    last: usize,
-    from: usize,
-    refused: u8,
 }
 
-// What one record does.
-fn turn(
-    run: Run,
-    said: Record,
-    sp: &[u8],
-    tp: usize,
-    low: &mut [u8],
-    ordinary: &mut [u8],
-    out: &mut [u8],
-) -> Run
-    requires sound { Sound run.sender }
-    requires sp_bound { run.from + 8 + length sp.now < 18446744073709551616 }
-    ensures sound_2 { Sound result.sender }
-    ensures from_value { result.from ≡ run.from + 8 + length sp.now }
-    ensures refused_after { record { sender = result.sender; low = low.new; ordinary = ordinary.new; block = record { bytes = out.new; at = result.at }; refused = result.refused } ≡ turn_of said run.sender sp.now low.old ordinary.old tp (record { bytes = out.old; at = run.at }) }
-{
-    let s = run.sender;
-    let t = sending::turn(s, said, sp, low, ordinary, tp, out, run.at);
-    let sender = t.sender;
-    Run {
-        sender,
-        at: t.at,
-        last: run.from,
-        from: run.from + 8 + sp.len(),
-        refused: t.refused,
-    }
-}
-
-// Takes the whole records of the input block, while the output block has room, up to the first offer that is refused.
-fn turns(
-    first: Run,
-    till: usize,
-    tp: usize,
-    low: &mut [u8],
-    ordinary: &mut [u8],
-    block: &[u8],
-    out: &mut [u8],
-) -> Run
-    requires { Ready first till (length block.now) tp (length out.old) }
-    ensures ahead { Ahead first till result }
-    ensures sent { Sent tp till block.now first low.old ordinary.old out.old result low.new ordinary.new out.new }
-{
-    let mut run = first;
-    while run.at < FULL {
-        let from = run.from;
-        let unread = &block[from..till];
-        let AtHand::Whole(said) = house::read_record(Place::Sending, unread) else {
-            return run;
-        };
-        let sp = house::data_of(said, unread);
-        run = turn(run, said, sp, tp, low, ordinary, out);
-        if run.refused != 0 {
-            return run;
-        }
-    }
-    run
-}
-
-// Takes block after block.
-fn blocks(
-    rt: &HostRuntime,
-    first: Run,
-    input: Unread,
-    tp: usize,
-    low: &mut [u8],
-    ordinary: &mut [u8],
-    block: &mut [u8],
-    out: &mut [u8],
-)
-    requires { Ready first input.till (length block.old) tp (length out.old) }
-{
-    let mut run = first;
-    let mut gone = input.gone;
-    let mut till = input.till;
-    let mut left = BLOCKS;
-    while 0 < left {
-        run = turns(run, till, tp, low, ordinary, block, out);
-        if run.refused != 0 {
-            let from = run.last;
-            console::refused(rt, b"c7send", Unread { gone, from, till }, run.refused);
-        }
-        let from = run.from;
-        let unread = Unread { gone, from, till };
-        let More::Read(next) = console::go_on(
-            rt,
-            b"c7send",
-            Place::Sending,
-            block,
-            unread,
-            out,
-            run.at,
-        ) else {
-            return;
-        };
-        let sender = run.sender;
-        run = Run {
+impl Sending {
+    // With these settings and their setup record held.
+    fn open(setup: Setup, bytes: &[u8]) -> Result<Sending, Refusal>
+        requires { length bytes.now ≡ 5 }
+        ensures { IfOk result (λ p. Ready p × (take p.at p.out ≡ record_bytes R.Setup bytes.now)) }
+    {
+        let low = [0; 32768];
+        let ordinary = [0; 32768];
+        let sender = sender::open(setup.tp, setup.stream, setup.piece, &low, &ordinary)?;
+        let mut out = [0; 65536];
+        let at = sending::begin(bytes, &mut out);
+        Ok(Sending {
             sender,
-            at: 0,
-            last: 0,
-            from: next.from,
-            refused: 0,
-        };
-        gone = next.gone;
-        till = next.till;
-        left -= 1;
+            tp: setup.tp,
+            low,
+            ordinary,
+            out,
+            at,
+        })
+    }
+
+    // What one record does, or the number of its refusal.
+    fn turn(&mut self, said: Record, sp: &[u8]) -> Option<u8>
+        requires { Sound self.old.sender }
+        ensures sound { Sound self.new.sender }
+        ensures same { (self.new.tp ≡ self.old.tp) × (length self.new.out ≡ length self.old.out) }
+        ensures after { record { sender = self.new.sender; low = self.new.low; ordinary = self.new.ordinary; block = record { bytes = self.new.out; at = self.new.at }; refused = result } ≡ turn_of said self.old.sender sp.now self.old.low self.old.ordinary self.old.tp (record { bytes = self.old.out; at = self.old.at }) }
+    {
+        let turned = sending::turn(
+            self.sender,
+            said,
+            sp,
+            &mut self.low,
+            &mut self.ordinary,
+            self.tp,
+            &mut self.out,
+            self.at,
+        );
+        self.sender = turned.sender;
+        self.at = turned.at;
+        turned.refused
+    }
+
+    // Takes the whole records of the stretch, while the output block has room, up to the first offer that is refused.
+    fn turns(&mut self, unread: &[u8]) -> Taken
+        requires { Ready self.old }
+        ensures ready { Ready self.new }
+        ensures whole { Whole P.Sending unread.now result.bytes }
+        ensures begins { IfSome result.refused (λ r. r.begin ≤ length unread.now) }
+        ensures sent { Sent self.old unread.now self.new (drop result.bytes unread.now) }
+    {
+        let mut bytes = 0;
+        while self.at < FULL {
+            let rest = &unread[bytes..];
+            let Ok(Some(said)) = house::read_record(Place::Sending, rest) else {
+                break;
+            };
+            let sp = house::data_of(said, rest);
+            let begin = bytes;
+            bytes += 8 + sp.len();
+            if let Some(number) = self.turn(said, sp) {
+                return Taken {
+                    bytes,
+                    refused: Some(Refused { begin, number }),
+                };
+            }
+        }
+        Taken {
+            bytes,
+            refused: None,
+        }
     }
 }
 
-fn send(rt: &HostRuntime, setup: Setup, unread: Unread, block: &mut [u8])
-    requires { (13 ≤ length block.old) × ((unread.from ≤ unread.till) × (unread.till ≤ length block.old)) }
-{
-    let mut low = [0u8; 32768];
-    let mut ordinary = [0u8; 32768];
-    let Answer::Done(sender) = sender::open(setup.tp, setup.stream, setup.piece, &low, &ordinary)
-    else {
-        console::stop(rt, b"c7send", 0, Fault::Limits);
-        return;
-    };
-    let mut out = [0u8; 65536];
-    let at = sending::begin(&block[8..13], &mut out);
-    let from = unread.from;
-    let run = Run {
-        sender,
-        at,
-        last: 0,
-        from,
-        refused: 0,
-    };
-    blocks(
-        rt,
-        run,
-        unread,
-        setup.tp,
-        &mut low,
-        &mut ordinary,
-        block,
-        &mut out,
-    );
+impl Program for Sending {
+    const PLACE: Place = Place::Sending;
+
+    ghost PLACE = { P.Sending };
+
+    ghost Before = { λ sending n unread. Ready sending × Comes sending unread };
+
+    ghost Behind = { λ sending n unread. Ready sending × Went sending unread };
+
+    fn take(&mut self, unread: &[u8]) -> Taken {
+        self.turns(unread)
+    }
+
+    fn held(&self) -> &[u8] {
+        &self.out[..self.at.min(self.out.len())]
+    }
+
+    fn empty(&mut self) {
+        self.at = 0;
+    }
 }
 
 // From standard input to standard output.
 pub fn from_input(rt: &HostRuntime) {
-    let mut block = [0u8; 131072];
-    let Start::Ready(setup, unread) = console::first(rt, b"c7send", &mut block) else {
+    let console = Console {
+        rt,
+        program: "c7send",
+    };
+    let mut block = [0; SIZE];
+    let Some(start) = console.first(&mut block) else {
         return;
     };
-    send(rt, setup, unread, &mut block);
+    let Ok(mut sending) = Sending::open(start.setup, &block[8..13]) else {
+        console.stop(0, Fault::Limits);
+        return;
+    };
+    console.run(&mut sending, start.unread, &mut block);
 }

@@ -1,6 +1,7 @@
 -- Laws of a queued header by its two words. Assumes nothing.
+use Rattle.std.specs.Prelude.{Some, None}
 use mathlib.Core.Path.{◌≡◌, refl, sym, ap, ◌∙◌}
-use mathlib.Core.Bool.{Bool, true, false}
+use mathlib.Core.Bool.{Bool, true, false, cond}
 use Prim.Native.Nat.{ℕ, ◌+◌, ◌*◌, ◌/◌, ◌%◌, ◌^◌, ◌≤◌, ◌<◌}
 use native.Mathlib.Omega.{arith}
 use Rattle.digits.specs.Digits.{number}
@@ -19,17 +20,20 @@ upper : (n : ℕ) → n < 4096 → code_word n / 4096 ≡ n
 unfolding code_word
 upper n h = omega (arith, parity_lt n)
 
-unknown_far : (c : ℕ) → known c ≡ false → first_word c ≡ 4294967295
-unfolding first_word
-unknown_far c k = rw k
-
 -- a first word tells that its content is known
-first_known : (c x : ℕ) → x < 16777216 → first_word c ≡ x → known c ≡ true
-first_known c x h e = by (known c) refl
+first_known : (c x : ℕ) → first_word c ≡ Some x → known c ≡ true
+unfolding first_word
+first_known c x e = by (known c) e
   where
-    by : (t : Bool) → known c ≡ t → known c ≡ true
-    by true k = k
-    by false k = absurd (omega (arith, unknown_far c k))
+    by : (t : Bool) → cond t (Some (code_word (c * 64))) None ≡ Some x → t ≡ true
+    by true k = refl
+    by false k = cc
+
+pub the_same : (a b : ℕ) → Some a ≡ Some b → a ≡ b
+the_same a b e = cc
+
+pub not_some : (a : ℕ) → None ≡ Some a → ⊥
+not_some a e = cc
 
 same_words : (x y v w : ℕ) → y < 16777216 → w < 16777216 → v * 16777216 + w ≡ x * 16777216 + y → (v ≡ x) × (w ≡ y)
 same_words x y v w hy hw e = (omega arith, omega arith)
@@ -56,10 +60,10 @@ module _ (x y : ℕ) (hx : x < 16777216) (hy : y < 16777216) where
     module _ (p : P ≤ 2047) where
       accepted : 7 + size_in (x * 16777216 + y) ≤ P → known (content_in (x * 16777216 + y)) ≡ true
           → number 0 (header (content_in (x * 16777216 + y)) 0 (size_in (x * 16777216 + y))) ≡ x * 16777216 + y
-          → (first_word (x / 262144) ≡ x) × (code_word (y / 4096) ≡ y)
+          → (first_word (x / 262144) ≡ Some x) × (code_word (y / 4096) ≡ y)
       accepted q k e = by (content_in (x * 16777216 + y)) (size_in (x * 16777216 + y)) (omega arith) k e
         where
-          by : (c s : ℕ) → s < 4096 → known c ≡ true → number 0 (header c 0 s) ≡ x * 16777216 + y → (first_word (x / 262144) ≡ x) × (code_word (y / 4096) ≡ y)
+          by : (c s : ℕ) → s < 4096 → known c ≡ true → number 0 (header c 0 s) ≡ x * 16777216 + y → (first_word (x / 262144) ≡ Some x) × (code_word (y / 4096) ≡ y)
           by c s hs k e =
               let m = (known_is c k).1 in
               let f₁ : c * 64 + s / 4096 ≡ c * 64 = omega arith in
@@ -70,20 +74,20 @@ module _ (x y : ℕ) (hx : x < 16777216) (hy : y < 16777216) where
               let ux : x / 4096 ≡ c * 64 = ap (λ (z : ℕ). z / 4096) (sym xe) ∙ upper (c * 64) (omega arith) in
               let uy : y / 4096 ≡ s = ap (λ (z : ℕ). z / 4096) (sym ye) ∙ upper s hs in
               let tx : x / 262144 ≡ c = omega arith in
-              (ap first_word tx ∙ is_first c k ∙ xe, ap code_word uy ∙ ye)
+              (ap first_word tx ∙ is_first c k ∙ ap Some xe, ap code_word uy ∙ ye)
 
-      pub not_first : (first_word (x / 262144) ≡ x → ⊥) → 0 ≡ low_in P n (x * 16777216 + y)
+      pub not_first : (first_word (x / 262144) ≡ Some x → ⊥) → 0 ≡ low_in P n (x * 16777216 + y)
       not_first f = low_case P n (x * 16777216 + y) (λ m. 0 ≡ m) refl (λ a b k e. absurd (f (accepted b k e).0))
 
       pub not_second : (code_word (y / 4096) ≡ y → ⊥) → 0 ≡ low_in P n (x * 16777216 + y)
       not_second f = low_case P n (x * 16777216 + y) (λ m. 0 ≡ m) refl (λ a b k e. absurd (f (accepted b k e).1))
 
-    pub is_low : 6 + y / 4096 ≤ n → 7 + y / 4096 ≤ P → first_word (x / 262144) ≡ x → code_word (y / 4096) ≡ y → 6 + y / 4096 ≡ low_in P n (x * 16777216 + y)
+    pub is_low : 6 + y / 4096 ≤ n → 7 + y / 4096 ≤ P → first_word (x / 262144) ≡ Some x → code_word (y / 4096) ≡ y → 6 + y / 4096 ≡ low_in P n (x * 16777216 + y)
     is_low a b fe ye =
-        let k = first_known (x / 262144) x hx fe in
+        let k = first_known (x / 262144) x fe in
         let m = (known_is (x / 262144) k).1 in
         let hs : y / 4096 < 4096 = omega arith in
-        let xe : code_word (x / 262144 * 64) ≡ x = sym (is_first (x / 262144) k) ∙ fe in
+        let xe : code_word (x / 262144 * 64) ≡ x = the_same _ _ (sym (is_first (x / 262144) k) ∙ fe) in
         let ux : x / 4096 ≡ x / 262144 * 64 = ap (λ (z : ℕ). z / 4096) (sym xe) ∙ upper (x / 262144 * 64) (omega arith) in
         let z : x / 4096 % 16 ≡ 0 = omega arith in
         let se : size_in (x * 16777216 + y) ≡ y / 4096 = size_words ∙ rw z (omega arith) in

@@ -24,3 +24,7 @@ split a b = by (leb a b) refl
     by : (t : Bool) → leb a b ≡ t → (a ≤ b) ⊎ (b < a)
     by true e = inl (leb-true a b e)
     by false e = inr (leb-false a b e)
+
+pub and_false : (a : Bool) → a && false ≡ false
+and_false true = refl
+and_false false = refl

@@ -1,14 +1,15 @@
 -- Laws of the draw. Assumes nothing.
+use Rattle.std.specs.Prelude.{Ok, Err}
 use mathlib.Core.Path.{◌≡◌, refl, sym, ap, ◌∙◌}
-use mathlib.Core.Bool.{Bool, true, false, cond}
+use mathlib.Core.Bool.{Bool, true, false, cond, not}
 use mathlib.Core.Logic.{⊎_elim}
 use mathlib.Core.List.{List, [], ◌∷◌, ◌++◌, append_assoc, append-nil, flatten}
 use Prim.Native.Nat.{ℕ, suc, ◌+◌, ◌-◌, ◌≤◌, ◌<◌, min}
 use native.Mathlib.Omega.{arith}
-use lib.Dec.{ltb}
+use lib.Dec.{ltb, eqb}
 use lib.ListN.{length, take, replicate, length-append}
 use lib.Seq.{paste, take-length, length-take-le, drop_at}
-use borrow.Author.Tests.{le-ltb, lt-ltb, eq-eqb, ne_eqb}
+use borrow.Author.Tests.{le-ltb, lt-ltb, eq-eqb}
 use Rattle.queue.specs.declared.Ring.{Ring}
 use Rattle.queue.specs.Ring.{copied, held, off, Kept}
 use Rattle.queue.proofs.Copies.{copied_all, length_copied}
@@ -18,12 +19,15 @@ use Rattle.wire.specs.Wire.{tp_header}
 use Rattle.wire.proofs.Laws.{tp_header_length}
 use Rattle.sender.specs.declared.Setting.{Setting}
 use Rattle.sender.specs.declared.Sender.{Sender}
-use Rattle.sender.specs.Answers.{done, Left, refused, lent}
+use Rattle.sender.specs.declared.Refusal.{Refusal}
+use Rattle.sender.specs.declared.Refusal.TheVariants.{Limits, Buffer}
+use Rattle.sender.specs.Answers.{number, done, Left, refused, lent}
 use Rattle.sender.specs.Opening.{Sound}
 use Rattle.sender.specs.Drawing.{next, leave, none_leaves, present, part, fill, stream, owed_after, rest_after, offset, draw_with, draw_of, took, draw_by, overwritten, drew}
-use Rattle.sender.specs.Steps.{Parted, Looked, Filled, DrawnOver}
+use Rattle.sender.specs.Steps.{checked, first_of, drawable, Parted, Filled, DrawnOver}
 use Rattle.sender.proofs.Bools.{split}
-use Rattle.sender.proofs.Heads.{low_few, next_is, over_none, over_some}
+use Rattle.sender.proofs.Heads.{low_few, next_is}
+use Rattle.sender.proofs.Passing.{number_in, is_no}
 use Rattle.sender.proofs.Stream.{rep_length, owed_least, owned_idle}
 
 -- the flag: the part has bytes
@@ -182,17 +186,6 @@ module _ (s : Sender) (w : Sound s) (z : s.low.len + s.ordinary.len + s.owed ≡
 
 -- ---- the call
 
--- what the low-latency part tells of its queue
-module _ (P : ℕ) (b : List ℕ) (q : Ring) (d d' : List ℕ) (r : Ring) (at : ℕ) (k : Looked P b q d d' r at) (w : Kept b q) where
-  pub looked_over : 0 < q.len → at ≡ 4 → overwritten P (held b q) ≡ true
-  looked_over h e = sym (over_some P (held b q) (λ z. absurd (omega (arith, length_held b q w)))) ∙ sym k.some ∙ eq-eqb at 4 e
-
-  pub looked_well : 0 < q.len → (at ≡ 4 → ⊥) → overwritten P (held b q) ≡ false
-  looked_well h e = sym (over_some P (held b q) (λ z. absurd (omega (arith, length_held b q w)))) ∙ sym k.some ∙ ne_eqb at 4 e
-
-  pub looked_empty : q.len ≤ 0 → overwritten P (held b q) ≡ false
-  looked_empty h = sym (over_none P (held b q) (omega (arith, length_held b q w)))
-
 pub is_lent : (g : Setting) (l o : ℕ) → l ≡ g.lowspace → o ≡ g.space → lent g l o ≡ true
 unfolding lent
 is_lent g l o e f = rw (eq-eqb l g.lowspace e, eq-eqb o g.space f)
@@ -203,15 +196,22 @@ module _ (s : Sender) (low own b : List ℕ) where
   draw_1 e = rw e
 
   module _ (e : lent s.setting (length low) (length own) ≡ true) where
-    pub draw_overwritten : overwritten s.setting.payload (held low s.low) ≡ true → refused 1 b ≡ drew s low own b
-    unfolding drew
-    draw_overwritten h = rw (e, h)
+    pub draw_no : (k : Refusal) → drawable s.setting.payload (held low s.low) (length b) ≡ Err k → refused (number k) b ≡ drew s low own b
+    unfolding drew drawable
+    draw_no k j = rw e (told (overwritten s.setting.payload (held low s.low)) (eqb (length b) (s.setting.payload + 4)) k j)
+      where
+        told : (t u : Bool) (k : Refusal) → first_of (checked t Limits) (checked (not u) Buffer) ≡ Err k
+            → refused (number k) b ≡ cond t (refused 1 b) (cond (not u) (refused 5 b) (took s (draw_by s low own)))
+        told true u k j = ap (λ (n : ℕ). refused n b) (sym (ap number_in j))
+        told false true k j = absurd (omega (arith, ap is_no j))
+        told false false k j = ap (λ (n : ℕ). refused n b) (sym (ap number_in j))
 
-    module _ (h : overwritten s.setting.payload (held low s.low) ≡ false) where
-      pub draw_5 : (length b ≡ s.setting.payload + 4 → ⊥) → refused 5 b ≡ drew s low own b
-      unfolding drew
-      draw_5 g = rw (e, h, ne_eqb (length b) (s.setting.payload + 4) g)
-
-      pub draw_done : (x : Left) → length b ≡ s.setting.payload + 4 → x ≡ took s (draw_by s low own) → x ≡ drew s low own b
-      unfolding drew
-      draw_done x g f = f ∙ rw (e, h, eq-eqb (length b) (s.setting.payload + 4) g) refl
+    pub draw_done : (x : Left) → drawable s.setting.payload (held low s.low) (length b) ≡ Ok tt → x ≡ took s (draw_by s low own) → x ≡ drew s low own b
+    unfolding drew drawable
+    draw_done x j f = f ∙ rw e (going (overwritten s.setting.payload (held low s.low)) (eqb (length b) (s.setting.payload + 4)) j)
+      where
+        going : (t u : Bool) → first_of (checked t Limits) (checked (not u) Buffer) ≡ Ok tt
+            → took s (draw_by s low own) ≡ cond t (refused 1 b) (cond (not u) (refused 5 b) (took s (draw_by s low own)))
+        going true u j = absurd (omega (arith, ap is_no j))
+        going false true j = refl
+        going false false j = absurd (omega (arith, ap is_no j))

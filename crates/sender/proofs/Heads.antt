@@ -1,6 +1,7 @@
 -- Laws of headers read from queued bytes. Assumes nothing.
+use Rattle.std.specs.Prelude.{Ok, Err}
 use mathlib.Core.Path.{◌≡◌, refl, sym, ap, ◌∙◌}
-use mathlib.Core.Bool.{Bool, true, false, cond, ◌&&◌}
+use mathlib.Core.Bool.{Bool, true, false, cond, not, ◌&&◌}
 use mathlib.Core.Logic.{⊎_elim}
 use mathlib.Core.List.{List, [], ◌∷◌}
 use Prim.Native.Nat.{ℕ, ◌+◌, ◌-◌, ◌*◌, ◌/◌, ◌%◌, ◌^◌, ◌≤◌, ◌<◌}
@@ -17,9 +18,12 @@ use Rattle.queue.specs.Ring.{held, Kept}
 use Rattle.queue.proofs.Sixes.{six_from, run_held}
 use Rattle.wire.specs.Wire.{word, first_number, header}
 use Rattle.wire.proofs.Laws.{code_lt}
+use Rattle.sender.specs.declared.Refusal.TheVariants.{Limits, Buffer}
 use Rattle.sender.specs.Offering.{known}
+use Rattle.sender.specs.Steps.{checked, first_of, drawable}
 use Rattle.sender.specs.Drawing.{head_at, size_in, content_in, low_in, low_at, next, span, overwritten}
-use Rattle.sender.proofs.Bools.{and_left, and_right, cond_case, split}
+use Rattle.sender.proofs.Bools.{and_left, and_right, and_false, cond_case, split}
+use Rattle.sender.proofs.Passing.{is_no}
 
 -- ---- six bytes as a number
 
@@ -161,3 +165,35 @@ span_within q = omega arith
 pub span_some : (q : List ℕ) → 0 < length q → 0 < span q
 unfolding span
 span_some q h = omega arith
+
+module _ (P : ℕ) (q : List ℕ) where
+  pub is_over : 0 < length q → low_at P q ≡ 0 → overwritten P q ≡ true
+  is_over h e = sym (over_some P q (λ z. absurd (omega arith))) ∙ eq-eqb (low_at P q) 0 e
+
+  pub not_over : (low_at P q ≡ 0 → ⊥) → overwritten P q ≡ false
+  unfolding overwritten
+  not_over h = rw (ne_eqb (low_at P q) 0 h) (and_false (not (eqb (length q) 0)))
+
+  -- ---- what a draw is refused for
+
+  module _ (n : ℕ) where
+    pub limits_first : overwritten P q ≡ true → drawable P q n ≡ Err Limits
+    unfolding drawable
+    limits_first e = rw e refl
+
+    pub buffer_then : overwritten P q ≡ false → (n ≡ P + 4 → ⊥) → drawable P q n ≡ Err Buffer
+    unfolding drawable
+    buffer_then e f = rw (e, ne_eqb n (P + 4) f) refl
+
+    pub can_draw : overwritten P q ≡ false → n ≡ P + 4 → drawable P q n ≡ Ok tt
+    unfolding drawable
+    can_draw e f = rw (e, eq-eqb n (P + 4) f) refl
+
+    pub length_drawable : drawable P q n ≡ Ok tt → n ≡ P + 4
+    unfolding drawable
+    length_drawable j = eqb-true n (P + 4) (by (overwritten P q) (eqb n (P + 4)) j)
+      where
+        by : (t u : Bool) → first_of (checked t Limits) (checked (not u) Buffer) ≡ Ok tt → u ≡ true
+        by true u k = absurd (omega (arith, ap is_no k))
+        by false true k = refl
+        by false false k = absurd (omega (arith, ap is_no k))

@@ -15,3 +15,4 @@ pub mod Drawn
 pub mod Lengths
 pub mod Worded
 pub mod Changed
+pub mod Passing

@@ -1,25 +1,27 @@
 -- Laws of the low-latency part. Assumes nothing.
-use mathlib.Core.Path.{◌≡◌, refl, sym, ap, ◌∙◌}
-use mathlib.Core.Bool.{cond}
+use mathlib.Core.Path.{◌≡◌, refl, sym, ap, subst, ◌∙◌}
+use Rattle.std.specs.Prelude.{Ok, Err}
+use mathlib.Core.Bool.{false, cond}
 use mathlib.Core.Logic.{⊎_elim}
 use mathlib.Core.List.{List, [], ◌∷◌, ◌++◌, append_assoc, append-nil, flatten}
 use Prim.Native.Nat.{ℕ, suc, ◌+◌, ◌-◌, ◌≤◌, ◌<◌}
 use native.Mathlib.Nat.{sub-zero, sub-add-eq}
 use native.Mathlib.Numerals.{add-one}
 use native.Mathlib.Omega.{arith}
-use lib.Dec.{eqb, ltb}
+use lib.Dec.{ltb}
 use lib.ListN.{length, take, drop, set, length-set, length-append}
 use lib.Seq.{paste, take-paste, length-paste, take-suc-set, length-take-le, take-take}
-use borrow.Author.Tests.{le-ltb, lt-ltb, eq-eqb, ne_eqb}
+use borrow.Author.Tests.{le-ltb, lt-ltb}
 use Rattle.queue.specs.declared.Ring.{Ring}
 use Rattle.queue.specs.Ring.{Left, held, off, Kept, popped}
 use Rattle.queue.proofs.Copies.{take_past}
 use Rattle.queue.proofs.Puts.{length_held}
 use Rattle.queue.proofs.Takes.{pop_fits, kept_off, held_off, off_zero, off_off}
-use Rattle.sender.specs.Drawing.{low_at, next, leave, none_leaves, one_leaves, part}
-use Rattle.sender.specs.Steps.{Parted, Looked}
+use Rattle.sender.specs.Drawing.{low_at, overwritten, next, leave, none_leaves, one_leaves, part}
+use Rattle.sender.specs.declared.Refusal.TheVariants.{Limits, Buffer}
+use Rattle.sender.specs.Steps.{drawable, Parted}
 use Rattle.sender.proofs.Bools.{split}
-use Rattle.sender.proofs.Heads.{next_is, next_within}
+use Rattle.sender.proofs.Heads.{next_is, next_within, over_none, is_over, not_over, limits_first, buffer_then, can_draw}
 
 -- ---- LLEPs while the last one isn't known: each is followed by FF
 
@@ -81,6 +83,9 @@ turned h l t g n cap e p q r s = omega arith
 
 within_on : (a m : ℕ) → a < m → a + 1 ≤ m
 within_on a m h = omega arith
+
+add_assoc : (a b c : ℕ) → a + b + c ≡ a + (b + c)
+add_assoc a b c = omega arith
 
 place_on : (a n o l : ℕ) → a ≡ 4 + o → l ≡ o + n + 1 → a + n + 1 ≡ 4 + l
 place_on a n o l e f = omega arith
@@ -160,19 +165,30 @@ module _ (P : ℕ) (b : List ℕ) (q : Ring) (d₀ d : List ℕ) (t : Ring) (at 
         let f : P + 4 - at ≡ P = omega arith in
         sym (ne ∙ ap (λ (k : ℕ). low_at k (held b t)) f ∙ ap (λ (r : Ring). low_at P (held b r)) (i.fresh e).1)
 
-    -- none is left
-    module _ (z : n ≡ 0) (d' : List ℕ) (e : d' ≡ cond (ltb 4 at) (set d (at - 1) 0) d) where
-      none_at : at ≡ 4 → d' ≡ d₀
-      none_at h = e ∙ rw (le-ltb 4 at (omega arith)) (i.fresh h).0
+    -- in a buffer of another length none is gone
+    not_begun : (length d₀ ≡ P + 4 → ⊥) → at ≡ 4
+    not_begun f = let p = i.place in ⊎_elim (λ h. omega arith) (λ h. absurd (f (i.begun h).0)) (split at 4)
 
-      tells : eqb at 4 ≡ eqb (low_at P (held b q)) 0
-      tells =
-          let p = i.place in
+    -- none is left
+    module _ (z : n ≡ 0) (w : Kept b q) where
+      -- an EP is queued, and it isn't an LLEP
+      pub spoilt : (m : ℕ) → at ≡ 4 → 0 < q.len → (drawable P (held b q) m ≡ Err Limits) × (d ≡ d₀)
+      spoilt m h p = (limits_first P (held b q) m (is_over P (held b q) (omega (arith, length_held b q w)) (first h ∙ z)), (i.fresh h).0)
+
+      whole : (at ≡ 4 → q.len ≤ 0) → overwritten P (held b q) ≡ false
+      whole g =
           ⊎_elim
-          (λ h. let f : at ≡ 4 = omega arith in eq-eqb at 4 f ∙ sym (eq-eqb (low_at P (held b q)) 0 (first f ∙ z)))
-          (λ h. ne_eqb at 4 (λ f. absurd (omega arith)) ∙ sym (ne_eqb (low_at P (held b q)) 0 (i.begun h).1))
+          (λ h. sym (over_none P (held b q) (let s = g (omega arith) in omega (arith, length_held b q w))))
+          (λ h. not_over P (held b q) (i.begun h).1)
           (split at 4)
 
+      pub unfit : (at ≡ 4 → q.len ≤ 0) → (length d₀ ≡ P + 4 → ⊥) → (drawable P (held b q) (length d₀) ≡ Err Buffer) × (d ≡ d₀)
+      unfit g f = (buffer_then P (held b q) (length d₀) (whole g) f, (i.fresh (not_begun f)).0)
+
+      pub fit : (at ≡ 4 → q.len ≤ 0) → length d₀ ≡ P + 4 → drawable P (held b q) (length d₀) ≡ Ok tt
+      fit g f = can_draw P (held b q) (length d₀) (whole g) f
+
+    module _ (z : n ≡ 0) (d' : List ℕ) (e : d' ≡ cond (ltb 4 at) (set d (at - 1) 0) d) where
       pub same_size : length d' ≡ length d₀
       same_size =
           ⊎_elim
@@ -180,8 +196,8 @@ module _ (P : ℕ) (b : List ℕ) (q : Ring) (d₀ d : List ℕ) (t : Ring) (at 
           (λ h. ap length e ∙ rw (lt-ltb 4 at h) (length-set d (at - 1) 0 ∙ i.size))
           (split at 4)
 
-      ends_parted : length d₀ ≡ P + 4 → Parted P b q d₀ d' t at
-      ends_parted s =
+      pub ends : length d₀ ≡ P + 4 → Parted P b q d₀ d' t at
+      ends s =
           let none = none_leaves i.fuel P (held b t) (P + 4 - at) (next_n ∙ z) in
           let g : i.gone ≡ leave (suc P) P (held b q) P = sym (append-nil i.gone) ∙ ap (λ (x : List (List ℕ)). i.gone ++ x) (sym none) ∙ i.leaves in
           let l4 : length (take 4 d₀) ≡ 4 = length-take-le 4 d₀ (omega arith) in
@@ -198,30 +214,12 @@ module _ (P : ℕ) (b : List ℕ) (q : Ring) (d₀ d : List ℕ) (t : Ring) (at 
             gone = rw (← g) i.few;
           }
 
-      pub ends : Looked P b q d₀ d' t at
-      ends =
-          record {
-            some = tells;
-            same = same_size;
-            none = none_at;
-            other = λ s. let p = i.place in ⊎_elim (λ h. none_at (omega arith)) (λ h. absurd (s (i.begun h).0)) (split at 4);
-            parted = ends_parted;
-          }
-
     module _ (p : n ≡ 0 → ⊥) where
       -- another length: only the first one was looked for
-      pub other_length : (length d ≡ P + 4 → ⊥) → Looked P b q d₀ d t 5
-      other_length s =
-          let z = i.size in
-          let pl = i.place in
-          let f : at ≡ 4 = ⊎_elim (λ h. omega arith) (λ h. absurd (s (i.size ∙ (i.begun h).0))) (split at 4) in
-          record {
-            some = sym (ne_eqb (low_at P (held b q)) 0 (λ e. p (sym (first f) ∙ e)));
-            same = i.size;
-            none = λ e. absurd (omega arith);
-            other = λ u. (i.fresh f).0;
-            parted = λ e. absurd (s (i.size ∙ e));
-          }
+      pub other_length : (length d₀ ≡ P + 4 → ⊥) → (drawable P (held b q) (length d₀) ≡ Err Buffer) × (d ≡ d₀)
+      other_length f =
+          let h = not_begun f in
+          (buffer_then P (held b q) (length d₀) (not_over P (held b q) (λ e. p (sym (first h) ∙ e))) f, (i.fresh h).0)
 
       module _ (s : length d ≡ P + 4) where
         pub fits : (n ≤ t.len) × (at + n < P + 4)
@@ -258,8 +256,8 @@ module _ (P : ℕ) (b : List ℕ) (q : Ring) (d₀ d : List ℕ) (t : Ring) (at 
           unfolding off
           len_on = ap (λ (x : Ring). x.len) ring_is
 
-          pub again : Kept b q → Walk P b q d₀ (set d₁ (at + n) 255) t₁ (at + n + 1)
-          again w =
+          forth : Kept b q → Walk P b q d₀ (set d₁ (at + n) 255) t₁ (at + n + 1)
+          forth w =
               let F₀ = fits.0 in
               let F₁ = fits.1 in
               let z = i.size in
@@ -302,3 +300,6 @@ module _ (P : ℕ) (b : List ℕ) (q : Ring) (d₀ d : List ℕ) (t : Ring) (at 
                 fresh = λ e. absurd (omega arith);
                 begun = λ v. (sym z ∙ s, ⊎_elim (λ j. λ e. p (sym (first (omega arith)) ∙ e)) (λ j. (i.begun j).1) (split at 4));
               }
+
+          pub again : Kept b q → Walk P b q d₀ (set d₁ (at + n) 255) t₁ (at + (n + 1))
+          again w = subst (Walk P b q d₀ (set d₁ (at + n) 255) t₁) (add_assoc at n 1) (forth w)

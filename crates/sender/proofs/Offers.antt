@@ -1,4 +1,5 @@
 -- Laws of the offers: each refusal, and what an accepted offer leaves. Assumes nothing.
+use Rattle.std.specs.Prelude.{Ok, Err}
 use mathlib.Core.Path.{◌≡◌, refl, sym, ap}
 use mathlib.Core.Bool.{Bool, true, false, cond, not}
 use mathlib.Core.Logic.{⊎_elim}
@@ -16,13 +17,12 @@ use Rattle.sender.specs.declared.Setting.{Setting}
 use Rattle.sender.specs.declared.Sender.{Sender}
 use Rattle.sender.specs.declared.Refusal.{Refusal}
 use Rattle.sender.specs.declared.Refusal.TheVariants.{Content, Long, Full}
-use Rattle.sender.specs.declared.checks.Check.{Check}
-use Rattle.sender.specs.declared.checks.Check.TheVariants.{Fine, No}
 use Rattle.sender.specs.Answers.{number, done, refusal, refused, lent}
 use Rattle.sender.specs.Opening.{Sound}
 use Rattle.sender.specs.Offering.{no, put, sp_bytes, known, want_ordinary, want_low, put_ordinary, put_low, ordinary_offered, low_offered}
-use Rattle.sender.specs.Steps.{checked, first_of, judged_of, with_ordinary, with_low, Put}
+use Rattle.sender.specs.Steps.{checked, first_of, judged_of, Put}
 use Rattle.sender.proofs.Bools.{and_left, and_right, split}
+use Rattle.sender.proofs.Passing.{number_in, is_no}
 use Rattle.sender.proofs.Pieces.{one_piece}
 
 pub lent_low : (g : Setting) (l o : ℕ) → lent g l o ≡ true → l ≡ g.lowspace
@@ -35,34 +35,30 @@ lent_ordinary g l o e = eqb-true o g.space (and_right (eqb l g.lowspace) (eqb o 
 
 -- ---- the three checks
 
-number_in : Check → ℕ
-number_in Fine = 0
-number_in (No k) = number k
-
-is_no : Check → ℕ
-is_no Fine = 0
-is_no (No k) = 1
-
-told : (t₁ t₂ t₃ : Bool) (e : List ℕ) (k : Refusal) → first_of (checked (not t₁) Content) (first_of (checked t₂ Long) (checked t₃ Full)) ≡ No k
+told : (t₁ t₂ t₃ : Bool) (e : List ℕ) (k : Refusal) → first_of (checked (not t₁) Content) (first_of (checked t₂ Long) (checked t₃ Full)) ≡ Err k
     → no (number k) ≡ cond (not t₁) (no 2) (cond t₂ (no 3) (cond t₃ (no 4) (put e)))
-unfolding number_in is_no
 told false t₂ t₃ e k j = ap no (sym (ap number_in j))
 told true true t₃ e k j = ap no (sym (ap number_in j))
 told true false true e k j = ap no (sym (ap number_in j))
 told true false false e k j = absurd (omega (arith, ap is_no j))
 
-fine : (t₁ t₂ t₃ : Bool) → first_of (checked (not t₁) Content) (first_of (checked t₂ Long) (checked t₃ Full)) ≡ Fine → (t₁ ≡ true) × ((t₂ ≡ false) × (t₃ ≡ false))
-unfolding is_no
+fine : (t₁ t₂ t₃ : Bool) → first_of (checked (not t₁) Content) (first_of (checked t₂ Long) (checked t₃ Full)) ≡ Ok tt → (t₁ ≡ true) × ((t₂ ≡ false) × (t₃ ≡ false))
 fine false t₂ t₃ j = absurd (omega (arith, ap is_no j))
 fine true true t₃ j = absurd (omega (arith, ap is_no j))
 fine true false true j = absurd (omega (arith, ap is_no j))
 fine true false false j = (refl, (refl, refl))
 
-pub fine_is : (c : ℕ) (d : List ℕ) (most F room : ℕ) → judged_of c d most F room ≡ Fine → (known c ≡ true) × ((length d ≤ most) × (length (sp_bytes F c d) ≤ room))
+pub fine_is : (c : ℕ) (d : List ℕ) (most F room : ℕ) → judged_of c d most F room ≡ Ok tt → (known c ≡ true) × ((length d ≤ most) × (length (sp_bytes F c d) ≤ room))
 unfolding judged_of
 fine_is c d most F room j =
     let f = fine (known c) (ltb most (length d)) (ltb room (length (sp_bytes F c d))) j in
     (f.0, (ltb-false most (length d) f.1.0, ltb-false room (length (sp_bytes F c d)) f.1.1))
+
+abbrev pub with_ordinary : Sender → Ring → Sender
+with_ordinary s q = record { setting = s.setting; low = s.low; ordinary = q; owed = s.owed; rest = s.rest }
+
+abbrev pub with_low : Sender → Ring → Sender
+with_low s q = record { setting = s.setting; low = q; ordinary = s.ordinary; owed = s.owed; rest = s.rest }
 
 module _ (s : Sender) (low ordinary : List ℕ) (c : ℕ) (d : List ℕ) where
   abbrev g : Setting
@@ -75,19 +71,19 @@ module _ (s : Sender) (low ordinary : List ℕ) (c : ℕ) (d : List ℕ) where
   ordinary_1 e = rw e
 
   module _ (e : lent g (length low) (length ordinary) ≡ true) where
-    pub ordinary_no : (k : Refusal) → judged_of c d 131072 g.piece (g.space - s.ordinary.len) ≡ No k
+    pub ordinary_no : (k : Refusal) → judged_of c d 131072 g.piece (g.space - s.ordinary.len) ≡ Err k
         → record { given = refusal (number k); buffer = ordinary } ≡ ordinary_offered s low ordinary c d
     unfolding judged_of ordinary_offered want_ordinary
     ordinary_no k j =
         let t = told (known c) (ltb 131072 (length d)) (ltb (g.space - s.ordinary.len) (length (sp_bytes g.piece c d))) (sp_bytes g.piece c d) k j in
         rw e (ap (put_ordinary s ordinary) t)
 
-    pub ordinary_put : (b' : List ℕ) (t : Ring) (r : Sender) → r ≡ with_ordinary s t → known c ≡ true → length d ≤ 131072 → length (sp_bytes g.piece c d) ≤ g.space - s.ordinary.len
+    pub ordinary_put : (b' : List ℕ) (t : Ring) → known c ≡ true → length d ≤ 131072 → length (sp_bytes g.piece c d) ≤ g.space - s.ordinary.len
         → record { ring = t; bytes = b' } ≡ Put ordinary s.ordinary (sp_bytes g.piece c d)
-        → record { given = done r; buffer = b' } ≡ ordinary_offered s low ordinary c d
+        → record { given = done (with_ordinary s t); buffer = b' } ≡ ordinary_offered s low ordinary c d
     unfolding ordinary_offered want_ordinary
-    ordinary_put b' t r f k l m u =
-        rw (f, e, k, le-ltb 131072 (length d) l, le-ltb (g.space - s.ordinary.len) (length (sp_bytes g.piece c d)) m)
+    ordinary_put b' t k l m u =
+        rw (e, k, le-ltb 131072 (length d) l, le-ltb (g.space - s.ordinary.len) (length (sp_bytes g.piece c d)) m)
         (ap (λ (x : R.Left). record { given = done (with_ordinary s x.ring); buffer = x.bytes }) u)
 
   pub ordinary_sound : (b' : List ℕ) (t : Ring) → Sound s → length (sp_bytes g.piece c d) ≤ g.space - s.ordinary.len
@@ -124,14 +120,14 @@ module _ (s : Sender) (low ordinary : List ℕ) (c : ℕ) (d : List ℕ) where
   module _ (e : lent g (length low) (length ordinary) ≡ true) where
     -- by the tests of the definition
     low_told : (t₂ t₃ : Bool) (k : Refusal) → ltb g.payload (7 + length d) ≡ t₂ → cond t₂ (no 3) (cond (ltb (g.lowspace - s.low.len) (length (ep c 0 d))) (no 4) (put (ep c 0 d))) ≡ cond t₂ (no 3) (cond t₃ (no 4) (put (ep c 0 d)))
-        → first_of (checked (not (known c)) Content) (first_of (checked t₂ Long) (checked t₃ Full)) ≡ No k
+        → first_of (checked (not (known c)) Content) (first_of (checked t₂ Long) (checked t₃ Full)) ≡ Err k
         → record { given = refusal (number k); buffer = low } ≡ low_offered s low ordinary c d
     unfolding low_offered want_low
     low_told t₂ t₃ k f₂ f₃ j =
         let t = told (known c) t₂ t₃ (ep c 0 d) k j in
         rw (e, f₂, f₃) (ap (put_low s low) t)
 
-    pub low_no : (k : Refusal) → 7 ≤ g.payload → g.payload ≤ 2047 → judged_of c d (g.payload - 7) 65535 (g.lowspace - s.low.len) ≡ No k
+    pub low_no : (k : Refusal) → 7 ≤ g.payload → g.payload ≤ 2047 → judged_of c d (g.payload - 7) 65535 (g.lowspace - s.low.len) ≡ Err k
         → record { given = refusal (number k); buffer = low } ≡ low_offered s low ordinary c d
     unfolding judged_of
     low_no k p q j =
@@ -141,12 +137,12 @@ module _ (s : Sender) (low ordinary : List ℕ) (c : ℕ) (d : List ℕ) where
         (λ h. low_told true (ltb (g.lowspace - s.low.len) (length (sp_bytes 65535 c d))) k (lt-ltb g.payload (7 + length d) (omega arith)) refl (rw (lt-ltb (g.payload - 7) (length d) h) at j))
         (split (length d) (g.payload - 7))
 
-    pub low_put : (b' : List ℕ) (t : Ring) (r : Sender) → r ≡ with_low s t → known c ≡ true → 7 + length d ≤ g.payload → 6 + length d ≤ g.lowspace - s.low.len
-        → record { ring = t; bytes = b' } ≡ Put low s.low (ep c 0 d) → record { given = done r; buffer = b' } ≡ low_offered s low ordinary c d
+    pub low_put : (b' : List ℕ) (t : Ring) → known c ≡ true → 7 + length d ≤ g.payload → 6 + length d ≤ g.lowspace - s.low.len
+        → record { ring = t; bytes = b' } ≡ Put low s.low (ep c 0 d) → record { given = done (with_low s t); buffer = b' } ≡ low_offered s low ordinary c d
     unfolding low_offered want_low
-    low_put b' t r f k l m u =
+    low_put b' t k l m u =
         let n : length (ep c 0 d) ≤ g.lowspace - s.low.len = omega (arith, ep_length c 0 d) in
-        rw (f, e, k, le-ltb g.payload (7 + length d) l, le-ltb (g.lowspace - s.low.len) (length (ep c 0 d)) n)
+        rw (e, k, le-ltb g.payload (7 + length d) l, le-ltb (g.lowspace - s.low.len) (length (ep c 0 d)) n)
         (ap (λ (x : R.Left). record { given = done (with_low s x.ring); buffer = x.bytes }) u)
 
   pub low_sound : (b' : List ℕ) (t : Ring) → Sound s → 6 + length d ≤ g.lowspace - s.low.len → record { ring = t; bytes = b' } ≡ Put low s.low (ep c 0 d)

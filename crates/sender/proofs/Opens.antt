@@ -1,14 +1,16 @@
 -- Laws of the opening. Assumes nothing.
 use mathlib.Core.Path.{◌≡◌, refl}
 use mathlib.Core.Bool.{Bool, true, false, cond, ◌&&◌}
-use Prim.Native.Nat.{ℕ, ◌≤◌, ◌<◌}
+use Prim.Native.Nat.{ℕ}
 use native.Mathlib.Omega.{arith}
-use borrow.Author.Tests.{le-leb, lt-leb}
+use borrow.Author.Tests.{leb-true}
+use lib.Dec.{leb}
 use Rattle.wire.specs.Limits.{allowed}
 use Rattle.wire.proofs.Allowing.{both, Allowed, limits}
 use Rattle.sender.specs.declared.Sender.{Sender}
 use Rattle.sender.specs.Answers.{done, refusal}
 use Rattle.sender.specs.Opening.{Sound, small, fresh, opened}
+use Rattle.sender.proofs.Bools.{and_left, and_right}
 
 module _ (tp stream F low ordinary : ℕ) where
   pub open_not : allowed tp stream F ≡ false → refusal 1 ≡ opened tp stream F low ordinary
@@ -16,21 +18,18 @@ module _ (tp stream F low ordinary : ℕ) where
   open_not e = rw e
 
   module _ (e : allowed tp stream F ≡ true) where
-    pub open_low : 1048576 < low → refusal 1 ≡ opened tp stream F low ordinary
-    unfolding opened small
-    open_low h = rw (e, lt-leb low 1048576 h)
+    pub open_large : small low ordinary ≡ false → refusal 1 ≡ opened tp stream F low ordinary
+    unfolding opened
+    open_large h = rw (e, h)
 
-    module _ (g : low ≤ 1048576) where
-      pub open_ordinary : 1048576 < ordinary → refusal 1 ≡ opened tp stream F low ordinary
-      unfolding opened small
-      open_ordinary h = rw (e, le-leb low 1048576 g, lt-leb ordinary 1048576 h)
+    module _ (h : small low ordinary ≡ true) where
+      pub open_done : done (fresh tp stream F low ordinary) ≡ opened tp stream F low ordinary
+      unfolding opened
+      open_done = rw (e, h)
 
-      pub open_done : ordinary ≤ 1048576 → done (fresh tp stream F low ordinary) ≡ opened tp stream F low ordinary
-      unfolding opened small
-      open_done h = rw (e, le-leb low 1048576 g, le-leb ordinary 1048576 h)
-
-      pub open_sound : ordinary ≤ 1048576 → Sound (fresh tp stream F low ordinary)
-      open_sound h =
+      pub open_sound : Sound (fresh tp stream F low ordinary)
+      unfolding small
+      open_sound =
           let l = limits tp stream F e in
           let l₁ = l.tp_least in
           let l₂ = l.tp_most in
@@ -40,8 +39,8 @@ module _ (tp stream F low ordinary : ℕ) where
             stream = l.stream_most;
             piece_least = l.piece_least;
             piece_most = l.piece_most;
-            lowspace = g;
-            space = h;
+            lowspace = leb-true low 1048576 (and_left _ (leb ordinary 1048576) h);
+            space = leb-true ordinary 1048576 (and_right (leb low 1048576) _ h);
             head_of_low = omega arith;
             low_len = omega arith;
             head = omega arith;

@@ -14,10 +14,6 @@ use Rattle.sender.specs.Opening.{Sound}
 use Rattle.sender.specs.Words.{words_of, sender_in, sound_setting, sound_ring, sound, of_words}
 use Rattle.sender.proofs.Bools.{and_left, and_right}
 
-and_true : (a b : Bool) → a ≡ true → a && b ≡ b
-and_true true b e = refl
-and_true false b e = cc
-
 both : (a b : Bool) → a ≡ true → b ≡ true → a && b ≡ true
 both true b e f = f
 both false b e f = e
@@ -95,18 +91,6 @@ if_sound s h =
     (both _ _ (both _ _ (le-leb _ _ h.lowspace) (both _ _ (le-leb _ _ h.head_of_low) (le-leb _ _ h.low_len)))
     (both _ _ (both _ _ (le-leb _ _ h.space) (both _ _ (le-leb _ _ h.head) (le-leb _ _ h.len)))
     (both _ _ (le-leb _ _ h.owed) (le-leb _ _ h.rest))))
-
--- where all tests but the last hold, the last decides
-pub setting_last : (g : Setting) → 12 ≤ g.payload → g.payload ≤ 2047 → g.stream ≤ 15 → 1 ≤ g.piece → leb g.piece 65535 ≡ sound_setting g
-unfolding sound_setting
-setting_last g a b c d =
-    sym (and_true (leb 12 g.payload) _ (le-leb _ _ a) ∙ and_true (leb g.payload 2047) _ (le-leb _ _ b)
-    ∙ and_true (leb g.stream 15) _ (le-leb _ _ c) ∙ and_true (leb 1 g.piece) _ (le-leb _ _ d))
-
-pub sound_last : (s : Sender) → sound_setting s.setting ≡ true → sound_ring s.low s.setting.lowspace ≡ true
-    → sound_ring s.ordinary s.setting.space ≡ true → s.owed ≤ 5 → leb s.rest s.ordinary.len ≡ sound s
-unfolding sound
-sound_last s a b c d = sym (and_true _ _ a ∙ and_true _ _ b ∙ and_true _ _ c ∙ and_true (leb s.owed 5) _ (le-leb _ _ d))
 
 -- ---- BACK: a sound sender comes back from its words
 

@@ -1,12 +1,10 @@
 -- What the sender's calls give back and leave behind (document 01, "Numbers given back", 1 to 5).
 -- Assumes nothing.
-use Rattle.std.specs.Prelude.{Bool, ◌&&◌, List, ℕ, eqb}
+use Rattle.std.specs.Prelude.{Bool, ◌&&◌, List, ℕ, eqb, Result, Ok, Err}
 use Rattle.sender.specs.declared.Refusal.{Refusal}
 use Rattle.sender.specs.declared.Refusal.TheVariants.{Limits, Content, Long, Full, Buffer}
 use Rattle.sender.specs.declared.Setting.{Setting}
 use Rattle.sender.specs.declared.Sender.{Sender}
-use Rattle.sender.specs.declared.Answer.{Answer}
-use Rattle.sender.specs.declared.Answer.TheVariants.{Done, Refused}
 
 -- document 01's number for each refusal
 abbrev pub number : Refusal → ℕ
@@ -22,9 +20,9 @@ pub data Given : Type 0 where
   refusal : ℕ → Given
 
 -- what an answer says
-abbrev pub given_by : Answer → Given
-given_by (Done s) = done s
-given_by (Refused k) = refusal (number k)
+abbrev pub given_by : Result Sender Refusal → Given
+given_by (Ok s) = done s
+given_by (Err k) = refusal (number k)
 
 -- what is given back, and the one buffer that the call may write, as it is left
 pub record Left : Type 0 where

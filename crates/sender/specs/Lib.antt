@@ -1,3 +1,5 @@
+pub mod State
+pub mod Fields
 pub mod Answers
 pub mod Opening
 pub mod Offering

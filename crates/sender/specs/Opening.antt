@@ -1,11 +1,10 @@
 -- Opening a sender (document 01, "Sender"), and what holds of every sender that came from one.
 -- Assumes nothing.
-use Rattle.std.specs.Prelude.{Bool, cond, ◌&&◌, ℕ, ◌-◌, ◌≤◌, leb}
+use Rattle.std.specs.Prelude.{Bool, cond, ◌&&◌, ℕ, ◌-◌, ◌≤◌, leb, Result, Ok, Err}
 use Rattle.queue.specs.declared.Ring.{Ring}
 use Rattle.wire.specs.Limits.{allowed}
 use Rattle.sender.specs.declared.Sender.{Sender}
-use Rattle.sender.specs.declared.Answer.{Answer}
-use Rattle.sender.specs.declared.Answer.TheVariants.{Done, Refused}
+use Rattle.sender.specs.declared.Refusal.{Refusal}
 use Rattle.sender.specs.Answers.{Given, done, refusal}
 
 -- two queue buffers of at most 1,048,576 bytes each
@@ -47,6 +46,6 @@ pub record Sound (s : Sender) : Type 0 where
   pub owed : s.owed ≤ 5
   pub rest : s.rest ≤ s.ordinary.len
 
-abbrev pub SoundAnswer : Answer → Type 0
-SoundAnswer (Done s) = Sound s
-SoundAnswer (Refused k) = Unit {0}
+abbrev pub SoundAnswer : Result Sender Refusal → Type 0
+SoundAnswer (Ok s) = Sound s
+SoundAnswer (Err k) = Unit {0}

@@ -1,52 +1,54 @@
 -- What the private steps of an offer and of a draw ensure of each other. Assumes nothing.
-use Rattle.std.specs.Prelude.{◌≡◌, Bool, true, false, cond, not, ℕ, suc, ◌+◌, ◌-◌, ◌*◌, ◌≤◌, min, eqb, ltb, length, take}
+use Rattle.std.specs.Prelude.{◌≡◌, Bool, true, false, cond, not, ℕ, suc, ◌+◌, ◌-◌, ◌*◌, ◌≤◌, min, eqb, ltb, length, take, Result, Ok, Err, Option, Some, None, zero, ⊤}
 use mathlib.Core.List.{List, ◌++◌, flatten}
 use Rattle.golay.specs.Golay.{code_word}
 use Rattle.queue.specs.declared.Ring.{Ring}
 use Rattle.queue.specs.Ring as R
 use Rattle.queue.specs.Ring.{held, longer, written, off}
 use Rattle.sender.specs.declared.Refusal.{Refusal}
-use Rattle.sender.specs.declared.Refusal.TheVariants.{Content, Long, Full}
-use Rattle.sender.specs.declared.checks.Check.{Check}
-use Rattle.sender.specs.declared.checks.Check.TheVariants.{Fine, No}
+use Rattle.sender.specs.declared.Refusal.TheVariants.{Limits, Content, Long, Full, Buffer}
+use Rattle.sender.specs.declared.part.Part.{Part}
 use Rattle.sender.specs.declared.Sender.{Sender}
 use Rattle.sender.specs.Offering.{known, sp_bytes}
 use Rattle.sender.specs.Answers.{Left}
-use Rattle.sender.specs.Drawing.{low_at, leave, part, stream, owed_after, took, draw_by}
+use Rattle.sender.specs.Drawing.{overwritten, leave, part, stream, owed_after, took, draw_by}
 
 -- ---- an offer
 
 -- a check's answer: the refusal where the test holds
-abbrev pub checked : Bool → Refusal → Check
-checked true k = No k
-checked false k = Fine
+abbrev pub checked : Bool → Refusal → Result ⊤ Refusal
+checked true k = Err k
+checked false k = Ok tt
 
-abbrev pub first_of : Check → Check → Check
-first_of Fine b = b
-first_of (No k) b = No k
+abbrev pub first_of : Result ⊤ Refusal → Result ⊤ Refusal → Result ⊤ Refusal
+first_of (Ok u) b = b
+first_of (Err k) b = Err k
 
 -- 2, 3, 4 in this order, for an SP of at most so many bytes in pieces of F and a queue with so much room
-unfoldable pub judged_of : ℕ → List ℕ → ℕ → ℕ → ℕ → Check
+unfoldable pub judged_of : ℕ → List ℕ → ℕ → ℕ → ℕ → Result ⊤ Refusal
 judged_of c d most F room =
     first_of (checked (not (known c)) Content)
     (first_of (checked (ltb most (length d)) Long)
     (checked (ltb room (length (sp_bytes F c d))) Full))
-
-abbrev pub with_ordinary : Sender → Ring → Sender
-with_ordinary s q = record { setting = s.setting; low = s.low; ordinary = q; owed = s.owed; rest = s.rest }
-
-abbrev pub with_low : Sender → Ring → Sender
-with_low s q = record { setting = s.setting; low = q; ordinary = s.ordinary; owed = s.owed; rest = s.rest }
 
 -- e put behind what q holds in b
 abbrev pub Put : List ℕ → Ring → List ℕ → R.Left
 Put b q e = record { ring = longer q (length e); bytes = written b q e }
 
 -- the first word of a complete EP's header whose length is below 4,096: it says the content alone; of an unknown content none
-unfoldable pub first_word : ℕ → ℕ
-first_word c = cond (known c) (code_word (c * 64)) 0xFFFFFFFF
+unfoldable pub first_word : ℕ → Option ℕ
+first_word c = cond (known c) (Some (code_word (c * 64))) None
 
 -- ---- a draw
+
+-- so many bytes, where 0 says that there is none
+abbrev pub found : ℕ → Option ℕ
+found zero = None
+found (suc n) = Some (suc n)
+
+-- 1 and 5 in this order, for these low-latency bytes and a buffer of n bytes
+unfoldable pub drawable : ℕ → List ℕ → ℕ → Result ⊤ Refusal
+drawable P q n = first_of (checked (overwritten P q) Limits) (checked (not (eqb n (P + 4))) Buffer)
 
 -- the low-latency part was written behind a TP's first four bytes: r is the ring then, at the part's end in d'
 pub record Parted (P : ℕ) (b : List ℕ) (q : Ring) (d d' : List ℕ) (r : Ring) (at : ℕ) : Type 0 where
@@ -57,13 +59,10 @@ pub record Parted (P : ℕ) (b : List ℕ) (q : Ring) (d d' : List ℕ) (r : Rin
   pub ring : r ≡ off (length b) q (length (flatten (leave (suc P) P (held b q) P)))
   pub gone : length (flatten (leave (suc P) P (held b q) P)) ≤ q.len
 
--- that was tried: nothing is written where no LLEP leaves, by which at tells whether there is one, or where d hasn't the TP length
-pub record Looked (P : ℕ) (b : List ℕ) (q : Ring) (d d' : List ℕ) (r : Ring) (at : ℕ) : Type 0 where
-  pub some : eqb at 4 ≡ eqb (low_at P (held b q)) 0
-  pub same : length d' ≡ length d
-  pub none : at ≡ 4 → d' ≡ d
-  pub other : (length d ≡ P + 4 → ⊥) → d' ≡ d
-  pub parted : length d ≡ P + 4 → Parted P b q d d' r at
+-- that was tried: where it is refused, nothing is written
+abbrev pub Looked : ℕ → List ℕ → Ring → List ℕ → List ℕ → Result Part Refusal → Type 0
+Looked P b q d d' (Ok p) = (drawable P (held b q) (length d) ≡ Ok tt) × Parted P b q d d' p.ring p.at
+Looked P b q d d' (Err k) = (drawable P (held b q) (length d) ≡ Err k) × (d' ≡ d)
 
 -- the ordinary bytes were written into d from place at to its end: r is the ring then
 pub record Filled (b : List ℕ) (q : Ring) (owed : ℕ) (d : List ℕ) (at : ℕ) (d' : List ℕ) (r : Ring) (n owed' : ℕ) : Type 0 where

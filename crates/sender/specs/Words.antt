@@ -1,11 +1,10 @@
 -- A sender as eleven words that anyone may keep, and the sender that words are, if they are one's: the library's states.
 -- Assumes nothing.
-use Rattle.std.specs.Prelude.{Bool, cond, ◌&&◌, List, [], ◌∷◌, ◌≡◌, ℕ, leb, get_or, set}
+use Rattle.std.specs.Prelude.{Bool, cond, ◌&&◌, List, [], ◌∷◌, ◌≡◌, ℕ, leb, get_or, set, Result, Ok, Err}
 use Rattle.queue.specs.declared.Ring.{Ring}
 use Rattle.sender.specs.declared.Setting.{Setting}
 use Rattle.sender.specs.declared.Sender.{Sender}
-use Rattle.sender.specs.declared.Answer.{Answer}
-use Rattle.sender.specs.declared.Answer.TheVariants.{Done, Refused}
+use Rattle.sender.specs.declared.Refusal.{Refusal}
 use Rattle.sender.specs.Answers.{Given, done, refusal}
 
 unfoldable pub words_of : Sender → List ℕ
@@ -48,6 +47,6 @@ unfoldable pub of_words : List ℕ → Given
 of_words w = cond (sound (sender_in w)) (done (sender_in w)) (refusal 1)
 
 -- the words that a sender was found in are its own: all eleven count
-abbrev pub OfItsWords : List ℕ → Answer → Type 0
-OfItsWords w (Done s) = w ≡ words_of s
-OfItsWords w (Refused k) = Unit {0}
+abbrev pub OfItsWords : List ℕ → Result Sender Refusal → Type 0
+OfItsWords w (Ok s) = w ≡ words_of s
+OfItsWords w (Err k) = Unit {0}

@@ -4,18 +4,18 @@ ghost use Rattle.wire.specs.Wire.{word, header};
 ghost use Rattle.sender.specs.Offering.{known};
 ghost use Rattle.sender.specs.Steps.{first_word};
 
-// The first word where the length is below 4,096: it says the content alone. No word has all bits set.
-pub fn first_word(content: u8) -> u32
+// The first word where the length is below 4,096: it says the content alone. Of an unknown content there is none.
+pub fn first_word(content: u8) -> Option<u32>
     ensures { result ≡ first_word content }
 {
     match content {
-        1 => 0x040D99,
-        2 => 0x0803DA,
-        3 => 0x0C0E43,
-        4 => 0x1007B4,
-        5 => 0x140A2D,
-        6 => 0x18046E,
-        _ => 0xFFFFFFFF,
+        1 => Some(0x040D99),
+        2 => Some(0x0803DA),
+        3 => Some(0x0C0E43),
+        4 => Some(0x1007B4),
+        5 => Some(0x140A2D),
+        6 => Some(0x18046E),
+        _ => None,
     }
 }
 
@@ -42,7 +42,7 @@ pub fn short_header(content: u8, size: usize) -> [u8; 6]
     ensures { result ≡ header content 0 size }
 {
     let a = first_bytes(content);
-    let b = digits::three_of(golay::encode(size as u16));
+    let b = digits::digits_of::<3>(golay::encode(size as u16) as u64);
     [
         (a % 256) as u8,
         (a / 256 % 256) as u8,

@@ -7,13 +7,14 @@ ghost use Rattle.sender.specs.Steps.{Put};
 
 use queue::Ring;
 
-// Puts an EP, its header and then its data, behind what the ring holds.
+// Puts an EP, its header and then its data, behind what the ring holds. Ring and buffer come apart here and below, since the buffer is
+// the caller's, who lends it anew with each call of the C interface.
 pub fn put_ep(buf: &mut [u8], q: Ring, h: [u8; 6], body: &[u8]) -> Ring
     requires kept { Kept buf.old q }
     requires body_in_bounds { (q.len + (6 + length body.now) ≤ length buf.old) × (length body.now ≤ 65536) }
     ensures { record { ring = result; bytes = buf.new } ≡ Put buf.old q (h ++ body.now) }
 {
-    queue::push(buf, q, h, body)
+    q.push(buf, h, body)
 }
 
 // The bytes that the EPs of an SP in several pieces take.
@@ -34,14 +35,13 @@ fn put_later(buf: &mut [u8], q: Ring, content: u8, sp: &[u8], piece: usize) -> R
 {
     let middle = wire::header_of(content, 2, piece as u16);
     let mut t = q;
-    let mut i = piece;
-    while piece < sp.len() - i {
-        let end = i + piece;
-        t = put_ep(buf, t, middle, &sp[i..end]);
-        i = end;
+    let mut rest = &sp[piece..];
+    while piece < rest.len() {
+        t = put_ep(buf, t, middle, &rest[..piece]);
+        rest = &rest[piece..];
     }
-    let last = wire::header_of(content, 3, (sp.len() - i) as u16);
-    put_ep(buf, t, last, &sp[i..])
+    let last = wire::header_of(content, 3, rest.len() as u16);
+    put_ep(buf, t, last, rest)
 }
 
 // Puts an SP's EPs behind what the ring holds.

@@ -5,7 +5,7 @@ ghost use Rattle.sender.specs.Drawing.{fill, rest_after, offset};
 ghost use Rattle.sender.specs.Steps.{Filled};
 
 use crate::reading::span_at;
-use queue::{Ring, least};
+use queue::Ring;
 
 // How many bytes of the EP under way are left once n bytes more are drawn.
 pub fn rest_after(buf: &[u8], q: Ring, rest: usize, n: usize) -> usize
@@ -14,8 +14,9 @@ pub fn rest_after(buf: &[u8], q: Ring, rest: usize, n: usize) -> usize
     ensures { (result ≡ rest_after n (held buf.now q) rest) × (result ≤ q.len - n) }
 {
     let mut at = rest;
+    // from EP to EP, each as long as its header says: there is no range or iterator of them
     while at < n {
-        at = at + span_at(buf, q, at);
+        at += span_at(buf, q, at);
     }
     at - n
 }
@@ -50,7 +51,7 @@ pub struct Own {
     pub owed: usize,
 }
 
-// Writes owed and queued bytes into a TP from place at to its end: the queue has enough.
+// Writes owed and queued bytes into a TP from place at to its end: the queue has enough. No twin of the next function, which counts.
 fn queued_part(buf: &[u8], q: Ring, owed: usize, tp: &mut [u8], at: usize) -> Own
     requires kept { Kept buf.now q }
     requires at_in_bounds { (at ≤ length tp.old) × (length tp.old ≤ 2051) × (owed ≤ length tp.old - at) × (length tp.old - at - owed ≤ q.len) }
@@ -58,7 +59,7 @@ fn queued_part(buf: &[u8], q: Ring, owed: usize, tp: &mut [u8], at: usize) -> Ow
 {
     let n = tp.len() - at - owed;
     queue::fill_at(tp, at, owed, 0);
-    let t = queue::pop_into(buf, q, tp, at + owed, n);
+    let t = q.pop_into(buf, tp, at + owed, n);
     Own {
         ring: t,
         gone: n,
@@ -73,10 +74,10 @@ fn padded_part(buf: &[u8], q: Ring, owed: usize, tp: &mut [u8], at: usize) -> Ow
     ensures { Filled buf.now q owed tp.old at tp.new result.ring result.gone result.owed }
 {
     let r = tp.len() - at;
-    let k = least(owed, r);
+    let k = owed.min(r);
     queue::fill_at(tp, at, k, 0);
-    let n = least(r - k, q.len);
-    let t = queue::pop_into(buf, q, tp, at + k, n);
+    let n = (r - k).min(q.len);
+    let t = q.pop_into(buf, tp, at + k, n);
     let more = fill_part(tp, at + k + n);
     Own {
         ring: t,
@@ -100,7 +101,8 @@ pub fn ordinary_part(buf: &[u8], q: Ring, owed: usize, tp: &mut [u8], at: usize)
     padded_part(buf, q, owed, tp, at)
 }
 
-// Where the first ordinary EP begins, behind a low-latency part of low bytes and first ordinary ones; 2047 if not here.
+// Where the first ordinary EP begins, behind a low-latency part of low bytes and first ordinary ones. Not an Option: where none
+// begins, document 01 and the definition `offset` have 2047 stand in the TP.
 pub fn offset_of(low: usize, first: usize, r: usize) -> u16
     requires { low + r ≤ 2047 }
     ensures { result ≡ offset low first r }

@@ -3,6 +3,7 @@ ghost use Rattle.std.specs.Prelude.{◌≡◌, cond, ◌-◌, ◌≤◌, ◌<◌
 ghost use Rattle.queue.specs.Ring.{Kept};
 ghost use Rattle.sender.specs.Steps.{Looked};
 
+use crate::Refusal;
 use crate::reading::low_at;
 use queue::Ring;
 
@@ -23,27 +24,31 @@ fn end(tp: &mut [u8], at: usize)
     }
 }
 
-// Writes the low-latency part into a TP, if it has the TP length. There is one place that looks for the next LLEP: so the
-// compiler puts it into the loop.
-pub fn low_part(payload: usize, buf: &[u8], q: Ring, tp: &mut [u8]) -> Part
+// Writes the low-latency part into a TP, or gives the first refusal of 1 and 5 that holds. There is one place that looks for the
+// next LLEP: so the compiler puts it into the loop.
+pub fn low_part(payload: usize, buf: &[u8], q: Ring, tp: &mut [u8]) -> Result<Part, Refusal>
     requires kept { Kept buf.now q }
     requires payload_bound { payload ≤ 2047 }
-    ensures { Looked payload buf.now q tp.old tp.new result.ring result.at }
+    ensures { Looked payload buf.now q tp.old tp.new result }
 {
+    let is_tp = tp.len() == payload + 4;
     let mut t = q;
     let mut at = 4;
-    loop {
-        let n = low_at(payload + 4 - at, buf, t);
-        if n == 0 {
-            break;
+    while let Some(n) = low_at(payload + 4 - at, buf, t) {
+        if !is_tp {
+            return Err(Refusal::Buffer);
         }
-        if tp.len() != payload + 4 {
-            return Part { ring: t, at: 5 };
-        }
-        t = queue::pop_into(buf, t, tp, at, n);
+        t = t.pop_into(buf, tp, at, n);
         tp[at + n] = 255;
-        at = at + n + 1;
+        at += n + 1;
+    }
+    // something is queued, and no LLEP at its head
+    if at == 4 && 0 < q.len {
+        return Err(Refusal::Limits);
+    }
+    if !is_tp {
+        return Err(Refusal::Buffer);
     }
     end(tp, at);
-    Part { ring: t, at }
+    Ok(Part { ring: t, at })
 }

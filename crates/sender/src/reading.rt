@@ -2,10 +2,11 @@
 ghost use Rattle.std.specs.Prelude.{◌≡◌, ◌+◌, ◌*◌, ◌≤◌, ◌<◌, drop};
 ghost use Rattle.queue.specs.Ring.{held, Kept};
 ghost use Rattle.sender.specs.Drawing.{head_at, size_in, low_in, low_at, span};
+ghost use Rattle.sender.specs.Steps.{found};
 
 use crate::complete::first_word;
 use golay::pair::Pair;
-use queue::{Ring, byte_at, least, place_of};
+use queue::Ring;
 
 // The header at place i of what the ring holds, of which each byte is looked for by itself.
 fn head_across(buf: &[u8], q: Ring, i: usize) -> u64
@@ -14,12 +15,12 @@ fn head_across(buf: &[u8], q: Ring, i: usize) -> u64
     ensures { (result ≡ head_at (drop i (held buf.now q))) × (result < 281474976710656) }
 {
     let a = digits::from_four(
-        byte_at(buf, q, i),
-        byte_at(buf, q, i + 1),
-        byte_at(buf, q, i + 2),
-        byte_at(buf, q, i + 3),
+        q.byte_at(buf, i),
+        q.byte_at(buf, i + 1),
+        q.byte_at(buf, i + 2),
+        q.byte_at(buf, i + 3),
     );
-    let b = digits::from_two(byte_at(buf, q, i + 4), byte_at(buf, q, i + 5));
+    let b = digits::from_two(q.byte_at(buf, i + 4), q.byte_at(buf, i + 5));
     a as u64 * 65536 + b as u64
 }
 
@@ -35,7 +36,7 @@ fn words_at(buf: &[u8], q: Ring) -> Pair
     requires le_len { 6 ≤ q.len }
     ensures { (result.first * 16777216 + result.second ≡ head_at (held buf.now q)) × ((result.first < 16777216) × (result.second < 16777216)) }
 {
-    let at = place_of(buf.len(), q, 0);
+    let at = q.place_of(buf.len(), 0);
     if buf.len() - at < 6 {
         let h = head_across(buf, q, 0);
         return Pair {
@@ -49,36 +50,31 @@ fn words_at(buf: &[u8], q: Ring) -> Pair
     }
 }
 
-// The bytes of the EP with these header words at the head of n queued bytes, if it could have been accepted; otherwise 0.
-fn low_in(payload: usize, n: usize, w: Pair) -> usize
+// The bytes of the EP with these header words at the head of n queued bytes, if it could have been accepted.
+fn low_in(payload: usize, n: usize, w: Pair) -> Option<usize>
     requires { (6 ≤ n) × ((payload ≤ 2047) × ((w.first < 16777216) × (w.second < 16777216))) }
-    ensures { result ≡ low_in payload n (w.first * 16777216 + w.second) }
+    ensures { result ≡ found (low_in payload n (w.first * 16777216 + w.second)) }
 {
     // of a longer one the payload has no room
     let size = (w.second / 4096) as usize;
-    if n - 6 < size {
-        return 0;
+    if n - 6 < size || payload < 7 + size {
+        return None;
     }
-    if payload < 7 + size {
-        return 0;
+    let first = first_word((w.first / 262144) as u8)?;
+    if first != w.first || golay::encode(size as u16) != w.second {
+        return None;
     }
-    if first_word((w.first / 262144) as u8) != w.first {
-        return 0;
-    }
-    if golay::encode(size as u16) != w.second {
-        return 0;
-    }
-    6 + size
+    Some(6 + size)
 }
 
 // The same for what the ring holds.
-pub fn low_at(payload: usize, buf: &[u8], q: Ring) -> usize
+pub fn low_at(payload: usize, buf: &[u8], q: Ring) -> Option<usize>
     requires kept { Kept buf.now q }
     requires payload_bound { payload ≤ 2047 }
-    ensures { result ≡ low_at payload (held buf.now q) }
+    ensures { result ≡ found (low_at payload (held buf.now q)) }
 {
     if q.len < 6 {
-        return 0;
+        return None;
     }
     low_in(payload, q.len, words_at(buf, q))
 }
@@ -89,7 +85,7 @@ fn size_at(buf: &[u8], q: Ring, i: usize) -> usize
     requires i_bound { i + 6 ≤ q.len }
     ensures { (result ≡ size_in (head_at (drop i (held buf.now q)))) × (result < 65536) }
 {
-    let at = place_of(buf.len(), q, i);
+    let at = q.place_of(buf.len(), i);
     if buf.len() - at < 6 {
         return size_in(head_across(buf, q, i));
     }
@@ -107,5 +103,5 @@ pub fn span_at(buf: &[u8], q: Ring, at: usize) -> usize
     if left < 6 {
         return left;
     }
-    least(6 + size_at(buf, q, at), left)
+    (6 + size_at(buf, q, at)).min(left)
 }

@@ -14,13 +14,12 @@ use Rattle.house.specs.declared.Record.TheVariants.{Packet}
 use Rattle.sender.specs.Answers.{given_by, Left}
 use Rattle.sender.specs.Drawing.{drew}
 use Rattle.sender.specs.declared.Sender.{Sender}
-use Rattle.sender.specs.declared.Answer.{Answer}
-use Rattle.sender.specs.declared.Answer.TheVariants.{Done, Refused}
+use Rattle.std.specs.Prelude.{None, Result, Ok, Err}
 use Rattle.sender.specs.declared.Refusal.{Refusal}
 use Rattle.sending.specs.Turn.{Drawn, drawn_by, drawn_of}
 
 abbrev drawn_with : Sender → Block → Drawn
-drawn_with s k = record { sender = s; block = k; refused = 0 }
+drawn_with s k = record { sender = s; block = k; refused = None }
 
 module _ (d : List ℕ) (at tp : ℕ) (h : at + 8 + tp ≤ length d) where
   size : at + 8 + tp - (at + 8) ≡ tp
@@ -80,28 +79,28 @@ module _ (d : List ℕ) (at tp : ℕ) (h : at + 8 + tp ≤ length d) where
     sized : length b ≡ tp
     sized = same ∙ ap (λ (k : ℕ). length (take k (drop (at + 8) d))) size ∙ lent
 
-    abbrev pub drew_as : Answer → Type 0
+    abbrev pub drew_as : Result Sender Refusal → Type 0
     drew_as a = ◌≡◌ {A = Left} (record { given = given_by a; buffer = b }) (drew s low ordinary (take (at + 8 + tp - (at + 8)) (drop (at + 8) d)))
 
-    by_draw : (a : Answer) → drew_as a → drawn_by (record { given = given_by a; buffer = b }) s tp d at ≡ drawn_of s low ordinary tp d at
+    by_draw : (a : Result Sender Refusal) → drew_as a → drawn_by (record { given = given_by a; buffer = b }) s tp d at ≡ drawn_of s low ordinary tp d at
     unfolding drawn_of
     by_draw a g =
         rw (le-leb (at + 8 + tp) (length d) h)
         (ap (λ (l : Left). drawn_by l s tp d at) (g ∙ ap (λ (k : ℕ). drew s low ordinary (take k (drop (at + 8) d))) size))
 
-    pub drew_one : (t : Sender) (a : Answer) (y : List ℕ) (r : ℕ) → drew_as a → a ≡ Done t
+    pub drew_one : (t : Sender) (a : Result Sender Refusal) (y : List ℕ) (r : ℕ) → drew_as a → a ≡ Ok t
         → block_of y r ≡ put (put_mid (at + 8) (at + 8 + tp - (at + 8)) d b) at (head_of (Packet tp))
-        → ◌≡◌ {A = Drawn} (record { sender = t; block = block_of y (at + 8 + tp); refused = 0 }) (drawn_of s low ordinary tp d at)
+        → ◌≡◌ {A = Drawn} (record { sender = t; block = block_of y (at + 8 + tp); refused = None }) (drawn_of s low ordinary tp d at)
     drew_one t a y r g is w =
         ap (λ (k : Block). drawn_with t k) (wrote_both b (head_of (Packet tp)) sized refl y r (w ∙ ap (λ (x : List ℕ). put x at (head_of (Packet tp))) (middle b sized)))
-        ∙ by_draw (Done t) (subst drew_as is g)
+        ∙ by_draw (Ok t) (subst drew_as is g)
 
-    pub drew_none : (k : Refusal) (a : Answer) → drew_as a → a ≡ Refused k
-        → ◌≡◌ {A = Drawn} (record { sender = s; block = block_of (put_mid (at + 8) (at + 8 + tp - (at + 8)) d b) at; refused = 0 }) (drawn_of s low ordinary tp d at)
+    pub drew_none : (k : Refusal) (a : Result Sender Refusal) → drew_as a → a ≡ Err k
+        → ◌≡◌ {A = Drawn} (record { sender = s; block = block_of (put_mid (at + 8) (at + 8 + tp - (at + 8)) d b) at; refused = None }) (drawn_of s low ordinary tp d at)
     drew_none k a g is =
-        ap (λ (x : List ℕ). drawn_with s (block_of x at)) (middle b sized) ∙ by_draw (Refused k) (subst drew_as is g)
+        ap (λ (x : List ℕ). drawn_with s (block_of x at)) (middle b sized) ∙ by_draw (Err k) (subst drew_as is g)
 
 pub drew_nothing : (s : Sender) (low ordinary d : List ℕ) (at tp : ℕ) → length d < at + 8 + tp
-    → ◌≡◌ {A = Drawn} (record { sender = s; block = block_of d at; refused = 0 }) (drawn_of s low ordinary tp d at)
+    → ◌≡◌ {A = Drawn} (record { sender = s; block = block_of d at; refused = None }) (drawn_of s low ordinary tp d at)
 unfolding drawn_of
 drew_nothing s low ordinary d at tp h = rw (lt-leb (at + 8 + tp) (length d) h)

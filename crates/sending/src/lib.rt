@@ -2,42 +2,27 @@
 #![tactic(auto)]
 
 ghost use Rattle.std.specs.Prelude.{◌≡◌};
-ghost use Rattle.sender.specs.Opening.{Sound};
-ghost use Rattle.sender.specs.Answers.{number};
-ghost use Rattle.sending.specs.Turn.{begun, drawn_of, turn_of};
+ghost use Rattle.sender.specs.Opening.{Sound, SoundAnswer};
+ghost use Rattle.sender.specs.Answers.{given_by};
+ghost use Rattle.sender.specs.Run.{kept};
+ghost use Rattle.sending.specs.Turn.{refused_by, begun, drawn_of, turn_of};
 
-use house::{Record, Written};
-use sender::{Answer, Refusal, Sender};
+use house::Record;
+use sender::{Refusal, Sender};
 
-// The sender, how many bytes of the output block are held, and document 01's number if an offer was refused, else 0.
+// The sender, how many bytes of the output block are held, and document 01's number if an offer was refused.
 #[derive(Clone, Copy)]
 pub struct Turned {
     pub sender: Sender,
     pub at: usize,
-    pub refused: u8,
-}
-
-fn number_of(k: Refusal) -> u8
-    ensures { result ≡ number k }
-{
-    match k {
-        Refusal::Limits => 1,
-        Refusal::Content => 2,
-        Refusal::Long => 3,
-        Refusal::Full => 4,
-        Refusal::Buffer => 5,
-    }
+    pub refused: Option<u8>,
 }
 
 // The output begins with the setup record.
 pub fn begin(setup: &[u8], out: &mut [u8]) -> usize
     ensures { record { bytes = out.new; at = result } ≡ begun setup.now out.old }
 {
-    match house::write_record(Record::Setup, setup, out, 0) {
-        Written::Till(at) => at,
-        Written::NoRoom => 0,
-        Written::OtherLength => 0,
-    }
+    house::write_record(Record::Setup, setup, out, 0).unwrap_or(0)
 }
 
 // Draws a TP into the block, behind its record's head.
@@ -46,44 +31,48 @@ fn drawn(s: Sender, low: &[u8], ordinary: &[u8], tp: usize, out: &mut [u8], at: 
     ensures refused_after { record { sender = result.sender; block = record { bytes = out.new; at = result.at }; refused = result.refused } ≡ drawn_of s low.now ordinary.now tp out.old at }
     ensures sound { Sound result.sender }
 {
-    if out.len() < at {
-        return Turned {
-            sender: s,
-            at,
-            refused: 0,
-        };
-    }
-    if out.len() - at < 8 {
-        return Turned {
-            sender: s,
-            at,
-            refused: 0,
-        };
+    let waits = Turned {
+        sender: s,
+        at,
+        refused: None,
+    };
+    if out.len() < at || out.len() - at < 8 || out.len() - at - 8 < tp {
+        return waits;
     }
     let from = at + 8;
-    if out.len() - from < tp {
-        return Turned {
-            sender: s,
-            at,
-            refused: 0,
-        };
-    }
     let end = from + tp;
-    match sender::draw(s, low, ordinary, &mut out[from..end]) {
-        Answer::Refused(_) => Turned {
+    let Ok(sender) = sender::draw(s, low, ordinary, &mut out[from..end]) else {
+        return waits;
+    };
+    let head = house::head_of(Record::Packet { length: tp });
+    block::put(out, at, &head);
+    Turned {
+        sender,
+        at: end,
+        refused: None,
+    }
+}
+
+// What an offer's answer leaves: a refused one is skipped.
+fn offered(s: Sender, answer: Result<Sender, Refusal>, at: usize) -> Turned
+    requires s_sound { Sound s }
+    requires answer_sound { SoundAnswer answer }
+    ensures sender { result.sender ≡ kept s (given_by answer) }
+    ensures at { result.at ≡ at }
+    ensures refused { result.refused ≡ refused_by (given_by answer) }
+    ensures sound { Sound result.sender }
+{
+    match answer {
+        Ok(sender) => Turned {
+            sender,
+            at,
+            refused: None,
+        },
+        Err(k) => Turned {
             sender: s,
             at,
-            refused: 0,
+            refused: Some(u8::from(k)),
         },
-        Answer::Done(t) => {
-            let head = house::head_of(Record::Packet { length: tp });
-            block::put(out, at, &head);
-            Turned {
-                sender: t,
-                at: end,
-                refused: 0,
-            }
-        }
     }
 }
 
@@ -103,49 +92,19 @@ pub fn turn(
     ensures sound { Sound result.sender }
 {
     match said {
-        Record::Ordinary { content, length: _ } => {
-            match sender::offer_ordinary(s, low, ordinary, content, sp) {
-                Answer::Done(t) => Turned {
-                    sender: t,
-                    at,
-                    refused: 0,
-                },
-                Answer::Refused(k) => Turned {
-                    sender: s,
-                    at,
-                    refused: number_of(k),
-                },
-            }
+        Record::Ordinary { content, .. } => {
+            let answer = sender::offer_ordinary(s, low, ordinary, content, sp);
+            offered(s, answer, at)
         }
-        Record::Low { content, length: _ } => {
-            match sender::offer_low(s, low, ordinary, content, sp) {
-                Answer::Done(t) => Turned {
-                    sender: t,
-                    at,
-                    refused: 0,
-                },
-                Answer::Refused(k) => Turned {
-                    sender: s,
-                    at,
-                    refused: number_of(k),
-                },
-            }
+        Record::Low { content, .. } => {
+            let answer = sender::offer_low(s, low, ordinary, content, sp);
+            offered(s, answer, at)
         }
         Record::Draw => drawn(s, low, ordinary, tp, out, at),
-        Record::Setup => Turned {
+        Record::Setup | Record::Packet { .. } | Record::Gap => Turned {
             sender: s,
             at,
-            refused: 0,
-        },
-        Record::Packet { length: _ } => Turned {
-            sender: s,
-            at,
-            refused: 0,
-        },
-        Record::Gap => Turned {
-            sender: s,
-            at,
-            refused: 0,
+            refused: None,
         },
     }
 }

@@ -13,19 +13,17 @@ pub fn read(rt: &HostRuntime, buf: &mut [u8]) -> Option<usize>
     rt.stdin().read(buf).ok()
 }
 
-// Reads until the buffer is full, the input ends or cannot be read, and answers how many bytes stand at the buffer's start.
+// Reads until the buffer is full, the input ends or cannot be read, and answers how many bytes stand at the buffer's start. (std's
+// `read_exact` does not say how many bytes came before the end.)
 pub fn read_full(rt: &HostRuntime, buf: &mut [u8]) -> usize
     ensures { result ≤ length buf.new }
 {
     let mut done = 0;
     while done < buf.len() {
-        let Some(n) = read(rt, &mut buf[done..]) else {
-            return done;
-        };
-        if n == 0 {
-            return done;
+        match read(rt, &mut buf[done..]) {
+            None | Some(0) => return done,
+            Some(n) => done += n,
         }
-        done += n;
     }
     done
 }

@@ -6,14 +6,14 @@ ghost use Rattle.receiver.specs.State.{Able};
 ghost use Rattle.receiver.specs.Call.{call_of, Gives, data_of};
 ghost use Rattle.unpacking.specs.Unpacking.{is_chapter11, find_of};
 
-use chapter11::Answer;
+use chapter11::Refusal;
 use receiver::{Find, Receiver, Step};
 
-// How many bytes of the output block are held, and the number if a packet was refused, else 0.
+// How many bytes of the output block are held, and why a packet was refused, if one was.
 #[derive(Clone, Copy)]
 pub struct Unpacked {
     pub at: usize,
-    pub refused: u8,
+    pub refused: Option<Refusal>,
 }
 
 // What a call gave, and what became of it.
@@ -27,15 +27,9 @@ fn is_chapter11(find: Find) -> bool
     ensures { result ≡ is_chapter11 find }
 {
     match find {
-        Find::Nothing => false,
-        Find::Refused => false,
-        Find::Notice(_) => false,
-        Find::Low {
-            content,
-            start: _,
-            len: _,
-        } => content == 3,
-        Find::Ordinary { content, len: _ } => content == 3,
+        Find::Low { content, .. } => content == 3,
+        Find::Ordinary { content, .. } => content == 3,
+        _ => false,
     }
 }
 
@@ -44,16 +38,22 @@ pub fn put_packet(find: Find, sp: &[u8], out: &mut [u8], at: usize) -> Unpacked
     ensures { record { block = record { bytes = out.new; at = result.at }; refused = result.refused } ≡ find_of find sp.now (record { bytes = out.old; at = at }) }
 {
     if !is_chapter11(find) {
-        return Unpacked { at, refused: 0 };
+        return Unpacked { at, refused: None };
     }
     if out.len() < at {
-        return Unpacked { at, refused: 17 };
+        return Unpacked {
+            at,
+            refused: Some(Refusal::Unfit),
+        };
     }
     match chapter11::reassemble(sp, &mut out[at..]) {
-        Answer::Refused(n) => Unpacked { at, refused: n },
-        Answer::Done(n) => Unpacked {
+        Err(k) => Unpacked {
+            at,
+            refused: Some(k),
+        },
+        Ok(n) => Unpacked {
             at: at + n,
-            refused: 0,
+            refused: None,
         },
     }
 }

@@ -4,9 +4,9 @@
 #![tactic(auto)]
 
 mod flips;
-mod report;
 
 use flips::Tally;
+use std::io;
 
 const NUMBERS: [u16; 16] = [
     0x000, 0x001, 0x7FF, 0xFFF, 0x800, 0xAAA, 0x555, 0xC75, 0x0F0, 0x123, 0xA4F, 0x8EB, 0x39C,
@@ -24,33 +24,39 @@ fn encoded() -> u64 {
 
 // All end bytes: how many mean 00, how many FF, how many neither.
 fn ends() -> Tally {
-    let mut t = flips::none();
+    let mut t = Tally::default();
     for b in 0..=255 {
-        t = flips::ended(t, b);
+        t = t.ended(b);
     }
     t
 }
 
 // Words of a linear congruence, which reach every syndrome.
 fn random() -> Tally {
-    let mut t = flips::none();
+    let mut t = Tally::default();
     let mut w: u64 = 1;
-    let mut left: u32 = 65536;
-    while 0 < left {
-        left -= 1;
+    for _ in 0..65536 {
         w = (w % 4294967296 * 1103515245 + 12345) % 4294967296;
-        t = flips::noted(t, (w / 256) as u32);
+        t = t.noted((w / 256) as u32);
     }
     t
 }
 
-fn main(rt: HostRuntime) {
-    report::encoded(&rt, encoded());
-    report::ended(&rt, ends());
-    let numbers = NUMBERS;
-    for i in 0..16 {
-        let n = numbers[i];
-        report::decoded(&rt, n, flips::up_to_four(flips::none(), golay::encode(n)));
+fn printed(rt: &HostRuntime) -> io::Result<()> {
+    println!(rt; "encode 4096 digest {}", encoded())?;
+    let ends = ends();
+    let [zeros, ones, _, _, beyond] = ends.counts;
+    println!(rt;
+        "end 00 {zeros} FF {ones} beyond {beyond} digest {}",
+        ends.digest
+    )?;
+    for n in NUMBERS {
+        let tally = Tally::default().up_to(4, golay::encode(n), 0);
+        println!(rt; "decode {n:03X} {tally}")?;
     }
-    report::random(&rt, random());
+    println!(rt; "random 65536 {}", random())
+}
+
+fn main(rt: HostRuntime) -> io::Result<()> {
+    printed(&rt)
 }

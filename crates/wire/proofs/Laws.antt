@@ -2,7 +2,6 @@
 -- Assumes nothing.
 use mathlib.Core.Path.{◌≡◌, refl, ap, ap₂, ◌∙◌}
 use mathlib.Core.Bool.{Bool, true, false, cond}
-use mathlib.Core.Option.{some}
 use mathlib.Core.List.{List}
 use Prim.Native.Nat.{ℕ, zero, suc, ◌+◌, ◌*◌, ◌/◌, ◌%◌, ◌^◌, ◌≤◌, ◌<◌}
 use native.Mathlib.Nat.{mod-lt}
@@ -15,9 +14,9 @@ use Rattle.digits.specs.Digits.{number}
 use Rattle.digits.proofs.Laws.{length_digits, number_digits}
 use Rattle.golay.specs.Golay.{chosen, code_word, distance, places_to, weight}
 use borrow.Author.Tests.{leb-true}
-use Rattle.golay.specs.declared.Decoded.{Decoded}
-use Rattle.golay.specs.declared.Decoded.TheVariants.{Word, Beyond}
-use Rattle.golay.specs.Answers.{count, reading, reading_below}
+use Rattle.std.specs.Prelude.{Option, Some, None}
+use Rattle.golay.specs.declared.Word.{Word}
+use Rattle.golay.specs.Answers.{count, found, reading, reading_below}
 use Rattle.golay.proofs.Words.{parity_lt}
 use Rattle.golay.proofs.Theorems.{reading_near}
 use Rattle.wire.specs.declared.Header.{Header}
@@ -60,7 +59,7 @@ near_itself w = let z : ones_in 24 (bit_xor w w) ≡ 0 = ap (ones_in 24) (xor_se
 
 -- within three flips of the code word of n
 module _ (w n : ℕ) (small : n < 4096) (near : distance w (code_word n) ≤ 3) where
-  pub number_back : number_of (reading w) ≡ some n
+  pub number_back : number_of (reading w) ≡ Some n
   number_back = ap number_of (reading_near w n small near)
 
 -- no count is more than that of a word beyond repair
@@ -69,16 +68,16 @@ unfolding reading_below
 count_most zero w = omega arith
 count_most (suc k) w = by (leb (distance w (code_word k)) 3) refl (count_most k w)
   where
-    by : (t : Bool) → leb (distance w (code_word k)) 3 ≡ t → count (reading_below k w) ≤ 4 → count (cond t (Word k (distance w (code_word k)) (places_to w k)) (reading_below k w)) ≤ 4
+    by : (t : Bool) → leb (distance w (code_word k)) 3 ≡ t → count (reading_below k w) ≤ 4 → count (cond t (found k (distance w (code_word k)) (places_to w k)) (reading_below k w)) ≤ 4
     by true e rest = omega (arith, leb-true (distance w (code_word k)) 3 e)
     by false e rest = rest
 
-flips_most : (x y : Decoded) (h : Header) → count x ≤ 4 → count y ≤ 4 → header_from x y ≡ some h → h.flips ≤ 8
-flips_most (Word a i x) (Word b j y) h p q e = let z : i + j ≡ h.flips = cc in omega arith
-flips_most (Word a i x) Beyond h p q e = let z : ◌≡◌ {A = ℕ} 0 1 = cc in absurd (omega arith)
-flips_most Beyond y h p q e = let z : ◌≡◌ {A = ℕ} 0 1 = cc in absurd (omega arith)
+flips_most : (r s : Option Word) (h : Header) → count r ≤ 4 → count s ≤ 4 → header_from r s ≡ Some h → h.flips ≤ 8
+flips_most (Some x) (Some y) h p q e = let z : x.flips + y.flips ≡ h.flips = cc in omega arith
+flips_most (Some x) None h p q e = let z : ◌≡◌ {A = ℕ} 0 1 = cc in absurd (omega arith)
+flips_most None s h p q e = let z : ◌≡◌ {A = ℕ} 0 1 = cc in absurd (omega arith)
 
-pub few_flips : (w : ℕ) (h : Header) → header_in w ≡ some h → h.flips ≤ 8
+pub few_flips : (w : ℕ) (h : Header) → header_in w ≡ Some h → h.flips ≤ 8
 unfolding header_in reading
 few_flips w h e = flips_most (reading (w / 2 ^ 24 % 2 ^ 24)) (reading (w % 2 ^ 24)) h (count_most 4096 (w / 2 ^ 24 % 2 ^ 24)) (count_most 4096 (w % 2 ^ 24)) e
 
@@ -103,11 +102,11 @@ module _ (c f n : ℕ) (known : c < 16) (flag : f < 4) (short : n < 65536) where
 
   -- an encoded header, with at most three flips in each word, is read as what was encoded, with so many flips
   pub header_back : (w : ℕ) → distance (w / 2 ^ 24 % 2 ^ 24) (code_word (first_number c f n)) ≤ 3 → distance (w % 2 ^ 24) (code_word (n % 4096)) ≤ 3
-      → header_in w ≡ some (record { content = c; fragment = f; size = n; flips = header_flips c f n w })
+      → header_in w ≡ Some (record { content = c; fragment = f; size = n; flips = header_flips c f n w })
   unfolding header_in
   header_back w first second =
       ap₂ header_from (reading_near (w / 2 ^ 24 % 2 ^ 24) (first_number c f n) (first_lt c f n) first) (reading_near (w % 2 ^ 24) (n % 4096) (mod-lt n (lit< tt)) second)
-      ∙ ap some (fields (header_flips c f n w))
+      ∙ ap Some (fields (header_flips c f n w))
 
 -- bits 11 and 10 of word 0 are sent zero, and ignored: two numbers that differ only there are read alike
 pub top_ignored : (a b d k : ℕ) → fields_of (d * 1024 + a % 1024) b k ≡ fields_of (a % 1024) b k
@@ -128,12 +127,12 @@ unfolding offset_number
 offset_lt true o = omega arith
 offset_lt false o = omega arith
 
-pub tp_word_back : (w : ℕ) (low : Bool) (o : ℕ) → distance w (code_word (offset_number low o)) ≤ 3 → tp_number_in w ≡ some (offset_number low o)
+pub tp_word_back : (w : ℕ) (low : Bool) (o : ℕ) → distance w (code_word (offset_number low o)) ≤ 3 → tp_number_in w ≡ Some (offset_number low o)
 unfolding tp_number_in
 tp_word_back w low o near = number_back w (offset_number low o) (offset_lt low o) near
 
 -- the code word of 2047 holds 2047: no low-latency part, and no EP begins
-pub no_start : (w : ℕ) → w ≡ code_word 2047 → tp_number_in w ≡ some 2047
+pub no_start : (w : ℕ) → w ≡ code_word 2047 → tp_number_in w ≡ Some 2047
 unfolding tp_number_in
 no_start w e = rw e (number_back (code_word 2047) 2047 (lit< tt) (near_itself (code_word 2047)))
 

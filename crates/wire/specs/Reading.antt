@@ -1,32 +1,29 @@
 -- EP header and TP header as they are read, from any maker (document 01, "Layouts").
 -- Bits 11 and 10 of word 0, and bits 3 and 2 of the stream byte, are ignored. Assumes nothing.
-use Rattle.std.specs.Prelude.{cond, ◌&&◌, List, ℕ, ◌+◌, ◌*◌, ◌/◌, ◌%◌, ◌^◌, eqb, leb}
-use Rattle.std.proofs.Math.Option.{Option, none, some}
+use Rattle.std.specs.Prelude.{cond, ◌&&◌, List, ℕ, ◌+◌, ◌*◌, ◌/◌, ◌%◌, ◌^◌, eqb, leb, Option, Some, None}
 use Rattle.digits.specs.Digits.{number}
-use Rattle.golay.specs.declared.Decoded.{Decoded}
-use Rattle.golay.specs.declared.Decoded.TheVariants.{Word, Beyond}
+use Rattle.golay.specs.declared.Word.{Word}
 use Rattle.golay.specs.Golay.{high, syndrome}
 use Rattle.golay.specs.Answers.{reading}
 use Rattle.wire.specs.declared.Header.{Header}
-use Rattle.wire.specs.declared.Read as R
-use Rattle.wire.specs.declared.TpWord as W
+use Rattle.wire.specs.declared.TpWord.{TpWord}
 use Rattle.wire.specs.declared.Sort.{Sort}
 use Rattle.wire.specs.declared.Sort.TheVariants.{Fill, Known, Reserved}
 
 -- the number of a word; none beyond repair
-abbrev pub number_of : Decoded → Option ℕ
-number_of (Word n c e) = some n
-number_of Beyond = none
+abbrev pub number_of : Option Word → Option ℕ
+number_of (Some x) = Some x.number
+number_of None = None
 
 -- content in bits 9 to 6 of word 0, fragment in 5 to 4, length bits 15 to 12 in 3 to 0 and 11 to 0 in word 1
 abbrev pub fields_of : ℕ → ℕ → ℕ → Header
 fields_of a b flips = record { content = a / 64 % 16; fragment = a / 16 % 4; size = a % 16 * 4096 + b; flips = flips }
 
 -- a header is whole if both its words are; it carries "the total repaired" in them
-abbrev pub header_from : Decoded → Decoded → Option Header
-header_from (Word a i p) (Word b j q) = some (fields_of a b (i + j))
-header_from (Word a i p) Beyond = none
-header_from Beyond w = none
+abbrev pub header_from : Option Word → Option Word → Option Header
+header_from (Some x) (Some y) = Some (fields_of x.number y.number (x.flips + y.flips))
+header_from (Some x) None = None
+header_from None y = None
 
 -- six bytes as a number, and the header that they hold; none if one of its words is beyond repair
 unfoldable pub header_in : ℕ → Option Header
@@ -36,24 +33,23 @@ header_in w = header_from (reading (w / 2 ^ 24 % 2 ^ 24)) (reading (w % 2 ^ 24))
 unfoldable pub intact_in : ℕ → Option Header
 intact_in w =
     cond (eqb (syndrome (w / 2 ^ 24 % 2 ^ 24)) 0 && eqb (syndrome (w % 2 ^ 24)) 0)
-    (some (fields_of (high (w / 2 ^ 24 % 2 ^ 24)) (high (w % 2 ^ 24)) 0))
-    none
+    (Some (fields_of (high (w / 2 ^ 24 % 2 ^ 24)) (high (w % 2 ^ 24)) 0))
+    None
 
 unfoldable pub header_of : List ℕ → Option Header
 header_of bytes = header_in (number 0 bytes)
-
--- what the code answers for it
-abbrev pub read_of : Option Header → R.Read
-read_of none = R.TheVariants.Beyond
-read_of (some h) = R.TheVariants.Whole h
 
 -- three bytes as a number, and the low-latency flag with the offset that they hold; none beyond repair
 unfoldable pub tp_number_in : ℕ → Option ℕ
 tp_number_in w = number_of (reading w)
 
-abbrev pub tp_word_of : Option ℕ → W.TpWord
-tp_word_of none = W.TheVariants.Beyond
-tp_word_of (some n) = W.TheVariants.Says (leb 2048 n) (n % 2048)
+-- bit 11 is the flag, and bits 10 to 0 are the offset
+abbrev pub tp_word_from : ℕ → TpWord
+tp_word_from n = record { low = leb 2048 n; offset = n % 2048 }
+
+abbrev pub tp_word_of : Option ℕ → Option TpWord
+tp_word_of (Some n) = Some (tp_word_from n)
+tp_word_of None = None
 
 -- the stream byte's stream and version
 abbrev pub stream_of : ℕ → ℕ

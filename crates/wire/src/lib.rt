@@ -1,17 +1,14 @@
 // EP header and TP header: numbers to bytes, and back from any maker's bytes.
 #![tactic(auto)]
 
-ghost use Rattle.std.specs.Prelude.{◌≡◌, ◌+◌, ◌≤◌, eqb};
-ghost use Rattle.std.proofs.Math.Option.{some};
+ghost use Rattle.std.specs.Prelude.{◌≡◌, eqb};
 ghost use Rattle.wire.specs.Wire.{word, header, offset_number, tp_header};
 ghost use Rattle.golay.specs.Answers.{reading};
 ghost use Rattle.golay.specs.Golay.{code_word, high, syndrome};
-ghost use Rattle.wire.specs.Reading.{fields_of, header_from, header_in, intact_in, read_of, tp_number_in, tp_word_of, sort_of};
+ghost use Rattle.wire.specs.Reading.{fields_of, header_from, header_in, intact_in, tp_number_in, tp_word_from, tp_word_of, sort_of};
 
-pub mod book;
 mod limits;
 
-use golay::Mended;
 pub use limits::{is_allowed, is_link};
 
 // What a header says, and how many bits were repaired in it.
@@ -23,18 +20,11 @@ pub struct Header {
     pub flips: u8,
 }
 
-// Six bytes read as an EP header.
+// What a TP's Golay word says.
 #[derive(Clone, Copy)]
-pub enum Read {
-    Beyond,
-    Whole(Header),
-}
-
-// Three bytes read as a TP's Golay word.
-#[derive(Clone, Copy)]
-pub enum TpWord {
-    Beyond,
-    Says { low: bool, offset: usize },
+pub struct TpWord {
+    pub low: bool,
+    pub offset: usize,
 }
 
 #[derive(Clone, Copy)]
@@ -47,7 +37,7 @@ pub enum Sort {
 fn word_of(n: u16) -> [u8; 3]
     ensures { result ≡ word n }
 {
-    digits::three_of(golay::encode(n))
+    digits::digits_of(golay::encode(n) as u64)
 }
 
 // An EP header; of content and fragment the bits that it has place for.
@@ -58,8 +48,8 @@ pub fn header_of(content: u8, fragment: u8, size: u16) -> [u8; 6]
         (content % 16) as u16 * 64 + (fragment % 4) as u16 * 16 + size / 4096 % 16,
         size % 4096,
     );
-    let a = digits::three_of(pair.first);
-    let b = digits::three_of(pair.second);
+    let a: [u8; 3] = digits::digits_of(pair.first as u64);
+    let b: [u8; 3] = digits::digits_of(pair.second as u64);
     [a[0], a[1], a[2], b[0], b[1], b[2]]
 }
 
@@ -98,79 +88,62 @@ fn header_in(a: u32, b: u32) -> Header
     header_from((a / 4096 % 4096) as u16, (b / 4096 % 4096) as u16, 0)
 }
 
-// The header that two words hold, whose syndromes are known.
-fn mended(a: u32, s: u16, b: u32, t: u16) -> Read
+// The header that two words hold, whose syndromes are known; none if one is beyond repair.
+fn mended(a: u32, s: u16, b: u32, t: u16) -> Option<Header>
     requires { (s ≡ syndrome a) × (t ≡ syndrome b) }
-    ensures { result ≡ read_of (header_from (reading a) (reading b)) }
+    ensures { result ≡ header_from (reading a) (reading b) }
 {
-    let Mended::Word {
-        number: n,
-        flips: i,
-    } = golay::mend(a, s)
-    else {
-        return Read::Beyond;
-    };
-    let Mended::Word {
-        number: m,
-        flips: j,
-    } = golay::mend(b, t)
-    else {
-        return Read::Beyond;
-    };
-    Read::Whole(header_from(n, m, i + j))
+    let x = golay::mend(a, s)?;
+    let y = golay::mend(b, t)?;
+    Some(header_from(x.number, y.number, x.flips + y.flips))
 }
 
 // The EP header that six bytes, as a number, hold, if both its words are intact.
-pub fn read_intact(bytes: u64) -> Read
-    ensures { result ≡ read_of (intact_in bytes) }
+pub fn read_intact(bytes: u64) -> Option<Header>
+    ensures { result ≡ intact_in bytes }
 {
     let a = (bytes / 0x100_0000 % 0x100_0000) as u32;
     let b = (bytes % 0x100_0000) as u32;
-    if golay::is_intact(a) {
-        if golay::is_intact(b) {
-            return Read::Whole(header_in(a, b));
-        }
+    if golay::is_intact(a) && golay::is_intact(b) {
+        return Some(header_in(a, b));
     }
-    Read::Beyond
+    None
 }
 
-// The EP header that six bytes, as a number, hold. Two intact words leave at once.
-pub fn read_header(bytes: u64) -> Read
-    ensures { result ≡ read_of (header_in bytes) }
+// The EP header that six bytes, as a number, hold; none if one of its words is beyond repair. Two intact words leave at once.
+pub fn read_header(bytes: u64) -> Option<Header>
+    ensures { result ≡ header_in bytes }
 {
     let a = (bytes / 0x100_0000 % 0x100_0000) as u32;
     let b = (bytes % 0x100_0000) as u32;
     let s = golay::syndrome_of(a);
     let t = golay::syndrome_of(b);
-    if s == 0 {
-        if t == 0 {
-            return Read::Whole(header_in(a, b));
-        }
+    if s == 0 && t == 0 {
+        return Some(header_in(a, b));
     }
     mended(a, s, b, t)
 }
 
-fn says(number: u16) -> TpWord
-    ensures { result ≡ tp_word_of (some number) }
+fn tp_word_from(number: u16) -> TpWord
+    ensures { result ≡ tp_word_from number }
 {
-    TpWord::Says {
+    TpWord {
         low: 2048 <= number,
         offset: (number % 2048) as usize,
     }
 }
 
-// The low-latency flag and the offset that three bytes, as a number, hold. An intact word leaves at once.
-pub fn read_tp_word(bytes: u32) -> TpWord
+// The low-latency flag and the offset that three bytes, as a number, hold; none if they are beyond repair. An intact word leaves at
+// once.
+pub fn read_tp_word(bytes: u32) -> Option<TpWord>
     ensures { result ≡ tp_word_of (tp_number_in bytes) }
 {
     let s = golay::syndrome_of(bytes);
     if s == 0 {
-        return says((bytes / 4096 % 4096) as u16);
+        return Some(tp_word_from((bytes / 4096 % 4096) as u16));
     }
-    match golay::mend(bytes, s) {
-        Mended::Word { number, flips: _ } => says(number),
-        Mended::Beyond => TpWord::Beyond,
-    }
+    let x = golay::mend(bytes, s)?;
+    Some(tp_word_from(x.number))
 }
 
 // The code word of 2047: no low-latency part, and no EP begins.
@@ -189,8 +162,6 @@ pub fn sort_of(content: u8) -> Sort
     match content {
         0 => Sort::Fill,
         1..=6 => Sort::Known,
-        7..=15 => Sort::Reserved,
-        // no header says more than 15
         _ => Sort::Reserved,
     }
 }

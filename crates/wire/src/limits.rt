@@ -6,24 +6,12 @@ ghost use Rattle.wire.specs.Limits.{link_allowed, allowed};
 pub fn is_link(tp: usize, stream: u8) -> bool
     ensures { result ≡ link_allowed tp stream }
 {
-    if tp < 16 {
-        return false;
-    }
-    if 2051 < tp {
-        return false;
-    }
-    stream <= 15
+    16 <= tp && tp <= 2051 && stream <= 15
 }
 
 // The same, and the sender's F.
 pub fn is_allowed(tp: usize, stream: u8, piece: usize) -> bool
     ensures { result ≡ allowed tp stream piece }
 {
-    if !is_link(tp, stream) {
-        return false;
-    }
-    if piece < 1 {
-        return false;
-    }
-    piece <= 65535
+    is_link(tp, stream) && 1 <= piece && piece <= 65535
 }

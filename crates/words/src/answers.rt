@@ -1,8 +1,8 @@
-// Digests of what the Golay code answers to words of three bytes. Encoding, decoding and the end byte have loops of their
-// own, so that a word costs nothing but its answer.
-ghost use Rattle.std.specs.Prelude.{◌+◌, ◌<◌, ◌≤◌, length};
+// Digests of what the Golay code answers to words of three bytes. Each sort of answer has a loop of its own, so that a word costs
+// nothing but its answer.
+ghost use Rattle.std.specs.Prelude.{◌<◌};
 
-use golay::{Decoded, End};
+use golay::End;
 
 fn mixed(digest: u64, x: u32) -> u64
     requires { digest < 4294967291 }
@@ -11,42 +11,26 @@ fn mixed(digest: u64, x: u32) -> u64
     (digest * 65599 + x as u64) % 4294967291
 }
 
-fn word_at(words: &[u8], i: usize) -> u32
-    requires { i + 3 ≤ length words.now }
+fn digest_of<F: Fn(u32) -> u32>(words: &[u8], answer: F) -> u64
+    requires { F.IsAlwaysCallable answer }
 {
-    digits::from_three(words[i], words[i + 1], words[i + 2])
+    let mut digest: u64 = 0;
+    for i in 0..words.len() / 3 {
+        let at = 3 * i;
+        let word = digits::from_three(words[at], words[at + 1], words[at + 2]);
+        digest = mixed(digest, answer(word));
+    }
+    digest
 }
 
-// What a word is read as: 8 times the number plus the flips, or 4 beyond repair; and where the flips were.
-#[derive(Clone, Copy)]
-struct Told {
-    value: u32,
-    places: u32,
-}
-
-fn read(w: u32) -> Told {
+// What a word is read as: 8 times the number plus the flips, or 4 beyond repair; or where the flips were.
+fn read(w: u32, places: bool) -> u32 {
     match golay::decode(w) {
-        Decoded::Word {
-            number,
-            flips,
-            places,
-        } => Told {
-            value: number as u32 * 8 + flips as u32,
-            places,
-        },
-        Decoded::Beyond => Told {
-            value: 4,
-            places: 0,
-        },
+        Some(word) if places => word.places,
+        Some(word) => word.number as u32 * 8 + word.flips as u32,
+        None if places => 0,
+        None => 4,
     }
-}
-
-fn decoded_value(w: u32, places: bool) -> u32 {
-    let t = read(w);
-    if places {
-        return t.places;
-    }
-    t.value
 }
 
 fn end_value(w: u32) -> u32 {
@@ -58,42 +42,18 @@ fn end_value(w: u32) -> u32 {
 }
 
 pub fn themselves(words: &[u8]) -> u64 {
-    let mut digest: u64 = 0;
-    let mut i = 0;
-    while 3 <= words.len() - i {
-        digest = mixed(digest, word_at(words, i));
-        i += 3;
-    }
-    digest
+    digest_of(words, |w| w)
 }
 
 pub fn encoded(words: &[u8]) -> u64 {
-    let mut digest: u64 = 0;
-    let mut i = 0;
-    while 3 <= words.len() - i {
-        digest = mixed(digest, golay::encode((word_at(words, i) % 4096) as u16));
-        i += 3;
-    }
-    digest
+    digest_of(words, |w| golay::encode((w % 4096) as u16))
 }
 
 // One loop for the values and for the places: the compiler puts the decoder into a loop only if it is called nowhere else.
 pub fn decoded(words: &[u8], places: bool) -> u64 {
-    let mut digest: u64 = 0;
-    let mut i = 0;
-    while 3 <= words.len() - i {
-        digest = mixed(digest, decoded_value(word_at(words, i), places));
-        i += 3;
-    }
-    digest
+    digest_of(words, |w| read(w, places))
 }
 
 pub fn ended(words: &[u8]) -> u64 {
-    let mut digest: u64 = 0;
-    let mut i = 0;
-    while 3 <= words.len() - i {
-        digest = mixed(digest, end_value(word_at(words, i)));
-        i += 3;
-    }
-    digest
+    digest_of(words, |w| end_value(w))
 }

@@ -5,34 +5,48 @@
 
 mod answers;
 
-// No input has so many sections: the loop ends for this.
-const LAST: u64 = 0x8000000000000000;
+use std::fmt;
 
-fn print_sort(rt: &HostRuntime, what: u8) {
-    match what {
-        0 => streams::print(rt, b"nothing "),
-        1 => streams::print(rt, b"encode "),
-        2 => streams::print(rt, b"decode "),
-        3 => streams::print(rt, b"end "),
-        _ => streams::print(rt, b"places "),
-    };
+// What a section asks of its words.
+#[derive(Clone, Copy)]
+enum Sort {
+    Nothing,
+    Encode,
+    Decode,
+    End,
+    Places,
 }
 
-fn digest_of(what: u8, words: &[u8]) -> u64 {
-    match what {
-        0 => answers::themselves(words),
-        1 => answers::encoded(words),
-        3 => answers::ended(words),
-        _ => answers::decoded(words, what == 4),
+fn sort_of(byte: u8) -> Option<Sort> {
+    match byte {
+        0 => Some(Sort::Nothing),
+        1 => Some(Sort::Encode),
+        2 => Some(Sort::Decode),
+        3 => Some(Sort::End),
+        4 => Some(Sort::Places),
+        _ => None,
     }
 }
 
-fn print_line(rt: &HostRuntime, what: u8, count: usize, words: &[u8]) {
-    print_sort(rt, what);
-    streams::print_number(rt, count as u64);
-    streams::print(rt, b" ");
-    streams::print_number(rt, digest_of(what, words));
-    streams::print(rt, b"\n");
+impl fmt::Display for Sort {
+    fn fmt<W: fmt::Write>(&self, f: &mut fmt::Formatter<W>) -> fmt::Result {
+        f.write_str(match self {
+            Sort::Nothing => "nothing",
+            Sort::Encode => "encode",
+            Sort::Decode => "decode",
+            Sort::End => "end",
+            Sort::Places => "places",
+        })
+    }
+}
+
+fn digest_of(sort: Sort, words: &[u8]) -> u64 {
+    match sort {
+        Sort::Nothing => answers::themselves(words),
+        Sort::Encode => answers::encoded(words),
+        Sort::End => answers::ended(words),
+        Sort::Decode | Sort::Places => answers::decoded(words, matches!(sort, Sort::Places)),
+    }
 }
 
 // One section; answers whether another may follow.
@@ -41,10 +55,9 @@ fn section(rt: &HostRuntime, buf: &mut [u8]) -> bool {
     if streams::read_full(rt, &mut head) < 3 {
         return false;
     }
-    let what = head[0];
-    if 4 < what {
+    let Some(sort) = sort_of(head[0]) else {
         return false;
-    }
+    };
     let count = digits::from_two(head[1], head[2]);
     if buf.len() / 3 < count {
         return false;
@@ -53,17 +66,15 @@ fn section(rt: &HostRuntime, buf: &mut [u8]) -> bool {
     if streams::read_full(rt, &mut buf[0..n]) < n {
         return false;
     }
-    print_line(rt, what, count, &buf[0..n]);
-    true
+    println!(rt; "{sort} {count} {}", digest_of(sort, &buf[0..n])).is_ok()
 }
 
 fn main(rt: HostRuntime) {
     let mut buf = [0u8; 196605];
-    let mut left = LAST;
-    while 0 < left {
+    // no input has so many sections
+    for _ in 0..u64::MAX {
         if !section(&rt, &mut buf) {
             return;
         }
-        left -= 1;
     }
 }

@@ -2,7 +2,7 @@
 -- Assumes nothing.
 use Rattle.std.proofs.Common.{sym, ◌∙◌}
 use Rattle.chapter11.proofs.Packets.{within}
-use Rattle.chapter11.proofs.Sources.{not_packet, no_room, not_fill, composed}
+use Rattle.chapter11.proofs.Sources.{not_packet, no_room, not_fill, composed, zero_is}
 use Rattle.chapter11.proofs.compose.Goals as goal
 
 pub returns-then-not-is_packet : goal.returns-then-not-is_packet
@@ -30,7 +30,7 @@ slice_bounds-is_zero-end c = (within _ _ (sym c.is_packet.ensures ∙ c.if-not-i
 pub returns-then-not-is_zero : goal.returns-then-not-is_zero
 returns-then-not-is_zero c =
     let a = c.args in
-    not_fill a.packet.now a.out.now c.cut_of-cut.result (sym c.is_packet.ensures ∙ c.if-not-is_packet.false) c.cut_of-cut.ensures c.if-out-cut.false (sym c.is_zero.ensures ∙ c.if-not-is_zero.true)
+    not_fill a.packet.now a.out.now c.cut_of-cut.result (sym c.is_packet.ensures ∙ c.if-not-is_packet.false) c.cut_of-cut.ensures c.if-out-cut.false (sym (zero_is _ _ c.is_zero.ensures) ∙ c.if-not-is_zero.true)
 
 pub write_source-requires : goal.write_source-requires
 write_source-requires c = record { packet_value = sym c.is_packet.ensures ∙ c.if-not-is_packet.false; cut_value = c.cut_of-cut.ensures; left_in_bounds = c.if-out-cut.false }
@@ -38,4 +38,4 @@ write_source-requires c = record { packet_value = sym c.is_packet.ensures ∙ c.
 pub returns : goal.returns
 returns c =
     let a = c.args in
-    composed a.packet.now a.out.now c.cut_of-cut.result (sym c.is_packet.ensures ∙ c.if-not-is_packet.false) c.cut_of-cut.ensures c.if-out-cut.false _ c.write_source.result (sym c.is_zero.ensures ∙ c.if-not-is_zero.false) c.write_source.ensures
+    composed a.packet.now a.out.now c.cut_of-cut.result (sym c.is_packet.ensures ∙ c.if-not-is_packet.false) c.cut_of-cut.ensures c.if-out-cut.false _ c.write_source.result (sym (zero_is _ _ c.is_zero.ensures) ∙ c.if-not-is_zero.false) c.write_source.ensures

@@ -3,10 +3,10 @@
 -- Assumes nothing.
 use Prim.Native.Nat.{ℕ, suc, ◌+◌, ◌-◌}
 use mathlib.Core.Bool.{Bool, true, false, cond}
-use mathlib.Core.Option.{Option, none, some}
 use mathlib.Core.List.{List, [], ◌∷◌}
 use lib.Dec.{eqb, leb, ltb}
 use lib.ListN.{length, drop}
+use Rattle.std.specs.Prelude.{Option, None, Some}
 use Rattle.downlink.proofs.plain.Frame.{Code, Frame, lost, idle, head, body, Event, lose, step}
 
 pub data Phase : Type 0 where
@@ -20,20 +20,20 @@ module _ (C : Code) where
   phase (body h k) = inside
 
   abbrev pub look : Phase → Option ℕ → Option ℕ
-  look off r = none
-  look between r = some 0
+  look off r = None
+  look between r = Some 0
   look inside r = r
 
   abbrev pub later : Option ℕ → Option ℕ
-  later none = none
-  later (some n) = some (suc n)
+  later None = None
+  later (Some n) = Some (suc n)
 
   -- "In step, the unfinished EP foretells where the next one begins, or that none begins here (also if it ends with the
   -- payload). Between two EPs the next begins right after the low-latency part, or not here if that part ends at P. A cut
   -- header is first read on, for this forecast only; if it is still not whole, none begins here."
   -- None where the header being read turns out beyond repair.
   abbrev pub foretold : Frame C → List C.B → Option ℕ
-  foretold f [] = look (phase f) (some 0)
+  foretold f [] = look (phase f) (Some 0)
   foretold f (b ∷ bs) = look (phase f) (later (foretold (step C f b).0 bs))
 
   -- what is told first, the frame, and how many bytes are passed over
@@ -58,8 +58,8 @@ module _ (C : Code) where
 
   -- 12: "if the header began in an earlier TP, reading resumes as in 13", which isn't also given
   abbrev pub judge : Option ℕ → Frame C → ℕ → List C.B → Start
-  judge none f n bs = resume (lose 12 ∷ []) n bs
-  judge (some m) f n bs = agree (eqb m n) f n bs
+  judge None f n bs = resume (lose 12 ∷ []) n bs
+  judge (Some m) f n bs = agree (eqb m n) f n bs
 
   abbrev pub set_out : Phase → Frame C → ℕ → List C.B → Start
   set_out off f n bs = resume [] n bs

@@ -2,8 +2,8 @@
 -- `Code` is all that reading needs to know of a byte and of a header. Assumes nothing.
 use Prim.Native.Nat.{ℕ, zero, suc}
 use mathlib.Core.Path.{◌≡◌}
-use mathlib.Core.Option.{Option, none, some}
 use mathlib.Core.List.{List, [], ◌∷◌, ◌++◌}
+use Rattle.std.specs.Prelude.{Option, None, Some}
 use Rattle.receiver.specs.declared.kind.Kind.{Kind}
 
 -- the type of a byte, of a header, and of what a packet is known by; the header that six bytes hold, none beyond repair;
@@ -56,8 +56,8 @@ module _ (C : Code) where
 
   -- a header's six bytes are there. 12: ordinary EP header beyond repair: out of step
   abbrev pub whole : Option C.H → Out
-  whole none = (lost, lose 12 ∷ [])
-  whole (some h) = (within h (C.size h), opened h ∷ entered h ∷ ending h (C.size h))
+  whole None = (lost, lose 12 ∷ [])
+  whole (Some h) = (within h (C.size h), opened h ∷ entered h ∷ ending h (C.size h))
 
   -- "An EP header may be cut by a TP end, even several times": a frame outlives the bytes of a TP
   abbrev pub step : Frame → C.B → Out

@@ -2,10 +2,10 @@
 -- Assumes nothing.
 use Prim.Native.Nat.{ℕ, ◌+◌}
 use mathlib.Core.Bool.{cond}
-use mathlib.Core.Option.{Option, none, some}
 use mathlib.Core.List.{List, [], ◌∷◌, ◌++◌}
 use lib.Dec.{leb, eqb}
 use lib.ListN.{length, set}
+use Rattle.std.specs.Prelude.{Option, None, Some}
 use Rattle.receiver.specs.declared.kind.Kind.{Kind}
 use Rattle.receiver.specs.declared.kind.Kind.TheVariants.{Fill, Reserved, Complete, First, Middle, Last}
 use Rattle.downlink.proofs.plain.Frame.{Code, Event, lose, gap, opened, entered, fed, closed}
@@ -26,13 +26,13 @@ module _ (C : Code) where
 
   -- 14: "a complete, first or fill EP while one is held"
   abbrev pub broken : Held → Took
-  broken free = (free, none)
-  broken (held t d) = (free, some (notice 14))
+  broken free = (free, None)
+  broken (held t d) = (free, Some (notice 14))
 
   -- 14: "middle or last, not fill, without a held series of its content"
   abbrev pub goes_on : Held → ℕ → Took
-  goes_on free c = (free, some (notice 14))
-  goes_on (held t d) c = cond (eqb (C.sort t) c) (held t d, none) (free, some (notice 14))
+  goes_on free c = (free, Some (notice 14))
+  goes_on (held t d) c = cond (eqb (C.sort t) c) (held t d, None) (free, Some (notice 14))
 
   -- a header is whole
   abbrev pub meets : Kind → Held → ℕ → Took
@@ -49,21 +49,21 @@ module _ (C : Code) where
   grown (held t d) b = held t (d ++ b ∷ [])
 
   abbrev pub handed : Held → Took
-  handed free = (free, none)
-  handed (held t d) = (free, some (ordinary t d))
+  handed free = (free, None)
+  handed (held t d) = (free, Some (ordinary t d))
 
   -- "Complete: handed out when its last byte is read. First: held. Middle and last: joined ..; last then hands out."
   abbrev pub finish : Kind → Held → Took
-  finish Fill s = (s, none)
-  finish Reserved s = (s, none)
+  finish Fill s = (s, None)
+  finish Reserved s = (s, None)
   finish Complete s = handed s
-  finish First s = (s, none)
-  finish Middle s = (s, none)
+  finish First s = (s, None)
+  finish Middle s = (s, None)
   finish Last s = handed s
 
   abbrev pub listed : Option Finding → List Finding
-  listed none = []
-  listed (some f) = f ∷ []
+  listed None = []
+  listed (Some f) = f ∷ []
 
   -- "An ordinary packet's data are copied as they are read, from the room's first byte on; no other room byte changes."
   abbrev pub put : Held → C.B → List C.B → List C.B
@@ -82,16 +82,16 @@ module _ (C : Code) where
 module _ (C : Code) (room : ℕ) where
   -- 15: "held bytes + length > room": "SP dropped, EP passed over"
   abbrev pub fits : ℕ → C.T → List C.B → Took C
-  fits n t d = cond (leb (length d + n) room) (held t d, none) (free, some (notice 15))
+  fits n t d = cond (leb (length d + n) room) (held t d, None) (free, Some (notice 15))
 
   abbrev pub further : C.H → Held C → Took C
-  further h free = (free, none)
+  further h free = (free, None)
   further h (held t d) = fits (C.size h) (C.join t h) d
 
   -- the way into an EP. 16: "content 7 to 15: EP passed over"; fill is passed over; a middle or last that got 14 too
   abbrev pub admit : Kind → C.H → Held C → Took C
-  admit Fill h s = (free, none)
-  admit Reserved h s = (free, some (notice 16))
+  admit Fill h s = (free, None)
+  admit Reserved h s = (free, Some (notice 16))
   admit Complete h s = fits (C.size h) (C.begin h) []
   admit First h s = fits (C.size h) (C.begin h) []
   admit Middle h s = further h s
@@ -100,11 +100,11 @@ module _ (C : Code) (room : ℕ) where
   -- what an event leaves, and what it gives. Out of step "the unfinished EP and the held fragments are dropped"; a told gap
   -- is no notice
   abbrev pub take_in : Held C → Event C → Took C
-  take_in s (lose n) = (free, some (notice n))
-  take_in s gap = (free, none)
+  take_in s (lose n) = (free, Some (notice n))
+  take_in s gap = (free, None)
   take_in s (opened h) = meets C (C.kind h) s (C.content h)
   take_in s (entered h) = admit (C.kind h) h s
-  take_in s (fed b) = (grown C s b, none)
+  take_in s (fed b) = (grown C s b, None)
   take_in s (closed h) = finish C (C.kind h) s
 
   abbrev pub holding : Held C → List (Event C) → Held C

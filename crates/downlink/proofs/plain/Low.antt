@@ -2,16 +2,14 @@
 -- Assumes nothing.
 use Prim.Native.Nat.{ℕ, zero, suc, ◌+◌}
 use mathlib.Core.Path.{refl}
-use mathlib.Core.Bool.{cond}
-use mathlib.Core.Option.{Option, none, some}
+use mathlib.Core.Bool.{Bool, cond}
 use mathlib.Core.List.{List, [], ◌∷◌, ◌++◌}
 use lib.ListN.{length, take, drop}
+use Rattle.std.specs.Prelude.{Option, None, Some}
 use Rattle.wire.specs.declared.Header.{Header}
 use Rattle.wire.specs.Reading.{header_of}
 use Rattle.receiver.specs.declared.kind.Kind.{Kind}
 use Rattle.receiver.specs.declared.kind.Kind.TheVariants as K
-use Rattle.receiver.specs.declared.low.Llep.{Llep}
-use Rattle.receiver.specs.declared.low.Llep.TheVariants.{Broken, Whole}
 use Rattle.receiver.specs.Kind.{kind_of}
 use Rattle.receiver.specs.Low.{llep, total_of}
 use Rattle.downlink.proofs.plain.Frame.{Code}
@@ -65,14 +63,14 @@ pub record Part : Type 0 where
 abbrev pub ahead : List (Finding wire) → Part → Part
 ahead fs p = record { finds = fs ++ p.finds; behind = p.behind }
 
-abbrev pub walked : Llep → List ℕ → (List ℕ → Part) → Part
-walked Broken bs on = record { finds = []; behind = none }
-walked (Whole h more) bs on =
-    ahead (given (kind_of h) h bs) (cond more (on (drop (7 + h.size) bs)) (record { finds = []; behind = some (drop (7 + h.size) bs) }))
+abbrev pub walked : Option (Header × Bool) → List ℕ → (List ℕ → Part) → Part
+walked None bs on = record { finds = []; behind = None }
+walked (Some (h, more)) bs on =
+    ahead (given (kind_of h) h bs) (cond more (on (drop (7 + h.size) bs)) (record { finds = []; behind = Some (drop (7 + h.size) bs) }))
 
 -- "The walk over the low-latency part stops at the first 00 end byte or the first broken LLEP."
 unfoldable pub walk : ℕ → List ℕ → Part
-walk zero bs = record { finds = []; behind = none }
+walk zero bs = record { finds = []; behind = None }
 walk (suc k) bs = walked (llep bs) bs (λ rest. walk k rest)
 
 -- no LLEP is shorter than its end byte, so a walk takes no more turns than there are bytes

@@ -2,10 +2,10 @@
 -- Assumes nothing.
 use Prim.Native.Nat.{ℕ, ◌-◌, ◌%◌}
 use mathlib.Core.Bool.{Bool, true, false, cond}
-use mathlib.Core.Option.{Option, none, some}
 use mathlib.Core.List.{List, [], ◌∷◌, ◌++◌}
 use lib.Dec.{eqb, leb}
 use lib.ListN.{length, take, drop, get_or}
+use Rattle.std.specs.Prelude.{Option, None, Some}
 use Rattle.digits.specs.Digits.{number}
 use Rattle.wire.specs.Reading.{tp_number_in, stream_of, version_of}
 use Rattle.receiver.specs.Tp.{Setting, Input, tp_in, gap_told}
@@ -41,17 +41,17 @@ read_on fs t bs = record {
 
 -- behind the low-latency part of a payload. 11: "out of step, rest of TP dropped"
 abbrev pub behind : List (Finding wire) → Option (List ℕ) → Frame wire → ℕ → List ℕ → Heard
-behind fs none f offset payload = record { lows = fs; told = lose 11 ∷ []; frame = lost }
-behind fs (some bs) f offset payload = read_on fs (outset wire f offset (length payload - length bs) bs) bs
+behind fs None f offset payload = record { lows = fs; told = lose 11 ∷ []; frame = lost }
+behind fs (Some bs) f offset payload = read_on fs (outset wire f offset (length payload - length bs) bs) bs
 
 -- "bit 11: low-latency part present; bits 10 to 0: offset"
 abbrev pub low_part_if : Bool → List ℕ → Part
 low_part_if true payload = low_part payload
-low_part_if false payload = record { finds = []; behind = some payload }
+low_part_if false payload = record { finds = []; behind = Some payload }
 
 abbrev pub worded : Option ℕ → Frame wire → List ℕ → Heard
-worded none f payload = dropping 9
-worded (some w) f payload =
+worded None f payload = dropping 9
+worded (Some w) f payload =
     behind (low_part_if (leb 2048 w) payload).finds (low_part_if (leb 2048 w) payload).behind f (w % 2048) payload
 
 -- "For each TP: the checks of 6, 8, 7, 9 in this order; the low-latency part; the offset (10); then ordinary bytes."

@@ -1,19 +1,14 @@
 -- `files::number_in` meets its contract: digits are read from the first one on, up to one that does not fit.
 -- Assumes nothing.
-use Rattle.files.proofs.Laws.{read_none, no_word, read_one, read_not, read_all}
+use mathlib.Core.Path.{sym, ◌∙◌}
+use Rattle.files.proofs.Laws.{read_none, read_one, read_all}
 use Rattle.files.proofs.number_in.Goals as goal
 
-pub returns-then-word-eq0 : goal.returns-then-word-eq0
-returns-then-word-eq0 c = no_word c.args.word.now c.if-word-eq0.true
+pub loop-b-init : goal.loop-b-init
+loop-b-init c = read_none c.args.word.now (sym c.is_empty.ensures ∙ c.if-is_empty.false)
 
-pub loop-i-init : goal.loop-i-init
-loop-i-init c = read_none c.args.word.now c.if-word-eq0.false
-
-pub returns-in_default : goal.returns-in_default
-returns-in_default c = read_not c.args.word.now _ _ c.loop-i-test.true c.loop-i.invariant _ c.joined.ensures c.in_default.is
-
-pub loop-i-preserved : goal.loop-i-preserved
-loop-i-preserved c = read_one c.args.word.now _ _ c.loop-i-test.true c.loop-i.invariant _ _ c.joined.ensures c.in-Number.is
+pub loop-b-preserved : goal.loop-b-preserved
+loop-b-preserved c = read_one c.args.word.now _ _ c.loop-b-test.true c.loop-b.invariant _ (sym c.joined.ensures ∙ c.in_ok-n.was)
 
 pub returns : goal.returns
-returns c = read_all c.args.word.now _ _ c.loop-i-test.false c.loop-i.invariant
+returns c = read_all c.args.word.now _ _ c.loop-b-test.false c.loop-b.invariant

@@ -1,10 +1,13 @@
--- `golay::mend` meets its contract: the table's entry is the one for the word's syndrome.
+-- `golay::mend` meets its contract: the table's entry at the word's syndrome says what to flip, and how many flips there are.
 -- Assumes nothing.
-use Rattle.golay.proofs.Decoder.{syndrome_lt}
+use Rattle.golay.proofs.Decoder.{syndrome_lt, mends, none_near}
 use Rattle.golay.proofs.mend.Goals as goal
 
-pub correction-requires : goal.correction-requires
-correction-requires c = rw c.requires (syndrome_lt c.args.w)
+pub correction-entry-requires : goal.correction-entry-requires
+correction-entry-requires c = rw c.requires (syndrome_lt c.args.w)
 
-pub said-requires : goal.said-requires
-said-requires c = rw c.requires at c.correction.ensures
+pub returns-then-entry : goal.returns-then-entry
+returns-then-entry c = none_near c.args.w _ (rw c.requires at c.correction-entry.ensures) c.if-entry.true
+
+pub returns : goal.returns
+returns c = mends c.args.w _ (rw c.requires at c.correction-entry.ensures) c.if-entry.false

@@ -14,6 +14,6 @@ returns c =
       step = q.result;
       gives = q.ensures;
       receiver = refl;
-      lasts = c.lasts-lasts.ensures;
+      lasts = c.lasts.ensures;
       text = c.put-held.ensures ∙ ap (λ d. put a.out.now a.at (text_of a.task a.stamp.number q.result.about.at q.result.find d)) c.found-data.ensures;
     }

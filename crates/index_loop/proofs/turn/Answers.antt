@@ -2,13 +2,8 @@
 -- Assumes nothing.
 use mathlib.Core.Path.{refl}
 use native.Mathlib.Omega.{arith}
-use Rattle.index_loop.proofs.Hearing.{does_heard, does_told}
+use Rattle.index_loop.proofs.Hearing.{does_told}
 use Rattle.index_loop.proofs.turn.Goals as goal
-
-pub returns-in-Packet : goal.returns-in-Packet
-returns-in-Packet c =
-    let f = c.finds.ensures in
-    record { onward = f.onward; does = does_heard _ _ _ _ _ _ _ _ _ _ _ c.in-Packet.is f.heard }
 
 pub returns : goal.returns
 returns c =

@@ -1,7 +1,6 @@
 -- `line_zero::number_at` meets its contract: the last digit is joined to what stands before it, if 64 bits hold that.
 -- Assumes nothing.
 use Rattle.line_zero.proofs.Laws.{number_held, number_not}
-use borrow.Author.Rules.{rules}
 use Rattle.line_zero.proofs.number_at.Goals as goal
 
 pub returns-then-digit-front : goal.returns-then-digit-front

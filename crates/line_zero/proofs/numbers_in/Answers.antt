@@ -1,7 +1,6 @@
 -- `line_zero::numbers_in` meets its contract.
 -- Assumes nothing.
 use Rattle.line_zero.proofs.Laws.{numbers_of}
-use borrow.Author.Rules.{rules}
 use Rattle.line_zero.proofs.numbers_in.Goals as goal
 
 pub returns : goal.returns

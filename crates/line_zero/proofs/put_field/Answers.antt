@@ -6,7 +6,6 @@ use Rattle.block.specs.Block.{put}
 use Rattle.block.proofs.Laws.{then}
 use Rattle.line_zero.specs.Top.{digits20}
 use Rattle.line_zero.proofs.Laws.{twenty_long}
-use borrow.Author.Rules.{rules}
 use Rattle.line_zero.proofs.put_field.Goals as goal
 
 pub returns : goal.returns

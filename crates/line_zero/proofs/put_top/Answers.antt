@@ -2,7 +2,6 @@
 -- Assumes nothing.
 use mathlib.Core.Path.{ap, ◌∙◌}
 use Rattle.block.specs.Block.{put}
-use borrow.Author.Rules.{rules}
 use Rattle.line_zero.proofs.put_top.Goals as goal
 
 pub returns : goal.returns

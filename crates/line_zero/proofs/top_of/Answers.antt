@@ -3,7 +3,6 @@
 use mathlib.Core.Path.{refl}
 use native.Mathlib.Omega.{arith}
 use Rattle.line_zero.proofs.Laws.{room₁, room₂, room₃, room₄, whole_top}
-use borrow.Author.Rules.{rules}
 use Rattle.line_zero.proofs.top_of.Goals as goal
 
 pub put_field-at-requires-2 : goal.put_field-at-requires-2

@@ -14,19 +14,19 @@ returns-in-Nothing c =
 pub returns-in-Refused : goal.returns-in-Refused
 returns-in-Refused c =
     let a = c.args in
-    c.notice.ensures ∙ ap (λ f. put a.out.now a.at (rest_of f)) (sym c.in-Refused.is)
+    c.worded.ensures ∙ ap (λ f. put a.out.now a.at (rest_of f)) (sym c.in-Refused.is)
 
 pub returns-in-Notice : goal.returns-in-Notice
 returns-in-Notice c =
     let a = c.args in
-    c.notice-in-Notice.ensures ∙ ap (λ f. put a.out.now a.at (rest_of f)) (sym c.in-Notice.is)
+    c.worded-in-Notice.ensures ∙ ap (λ f. put a.out.now a.at (rest_of f)) (sym c.in-Notice.is)
 
 pub returns-in-Low : goal.returns-in-Low
 returns-in-Low c =
     let a = c.args in
-    c.low.ensures ∙ ap (λ f. put a.out.now a.at (rest_of f)) (sym c.in-Low.is)
+    c.worded-in-Low.ensures ∙ ap (λ f. put a.out.now a.at (rest_of f)) (sym c.in-Low.is)
 
 pub returns-in-Ordinary : goal.returns-in-Ordinary
 returns-in-Ordinary c =
     let a = c.args in
-    c.ordinary.ensures ∙ ap (λ f. put a.out.now a.at (rest_of f)) (sym c.in-Ordinary.is)
+    c.worded-in-Ordinary.ensures ∙ ap (λ f. put a.out.now a.at (rest_of f)) (sym c.in-Ordinary.is)

@@ -18,14 +18,14 @@ returns-then-not-is_chapter11 c =
 pub slice_bounds-put_record-end : goal.slice_bounds-put_record-end
 slice_bounds-put_record-end c =
     let a = c.args in
-    omega (arith, front_fits (done a.sp.now _ _ _ (composed_of a.data.now (length a.sp.now)) c.compose.ensures c.in-Done.is))
+    omega (arith, front_fits (done a.sp.now _ _ _ (composed_of a.data.now (length a.sp.now)) c.compose.ensures c.in-Ok.is))
 
-pub returns-in-Refused : goal.returns-in-Refused
-returns-in-Refused c =
+pub returns-in-Err : goal.returns-in-Err
+returns-in-Err c =
     let a = c.args in
-    left_out a.said a.data.now a.sp.now a.out.now a.at _ _ (sym c.is_chapter11.ensures ∙ c.if-not-is_chapter11.false) (refused a.sp.now _ _ _ (composed_of a.data.now (length a.sp.now)) c.compose.ensures c.in-Refused.is)
+    left_out a.said a.data.now a.sp.now a.out.now a.at _ _ (sym c.is_chapter11.ensures ∙ c.if-not-is_chapter11.false) (refused a.sp.now _ _ _ (composed_of a.data.now (length a.sp.now)) c.compose.ensures c.in-Err.is)
 
-pub returns-in-Done : goal.returns-in-Done
-returns-in-Done c =
+pub returns-in-Ok : goal.returns-in-Ok
+returns-in-Ok c =
     let a = c.args in
-    put_composed a.said a.data.now a.sp.now a.out.now a.at _ _ _ _ _ (sym c.is_chapter11.ensures ∙ c.if-not-is_chapter11.false) (done a.sp.now _ _ _ (composed_of a.data.now (length a.sp.now)) c.compose.ensures c.in-Done.is) c.of_length.ensures c.put_record-in-Done.ensures
+    put_composed a.said a.data.now a.sp.now a.out.now a.at _ _ _ _ _ (sym c.is_chapter11.ensures ∙ c.if-not-is_chapter11.false) (done a.sp.now _ _ _ (composed_of a.data.now (length a.sp.now)) c.compose.ensures c.in-Ok.is) c.of_length.ensures c.put_record-in-Ok.ensures

@@ -1,20 +1,18 @@
 -- `reading::packet` meets its contract.
 -- Assumes nothing.
-use mathlib.Core.Path.{refl}
+use mathlib.Core.Path.{refl, ap}
+use Rattle.reading.specs.Packets.{packet_of}
 use Rattle.reading.proofs.Laws.{no_record, a_record}
 use Rattle.reading.proofs.packet.Goals as goal
+use Rattle.reading.proofs.packet.Goals.{in-Low, in-Ordinary}
 
 pub returns-in-Nothing : goal.returns-in-Nothing
-returns-in-Nothing c = no_record c.args.out.now c.args.at c.args.«data».now c.args.find _ c.in-Nothing.is refl
+returns-in-Nothing c = no_record _ _ _ _ c.in-Nothing.is
 
-pub returns-in-Refused : goal.returns-in-Refused
-returns-in-Refused c = no_record c.args.out.now c.args.at c.args.«data».now c.args.find _ c.in-Refused.is refl
-
-pub returns-in-Notice : goal.returns-in-Notice
-returns-in-Notice c = no_record c.args.out.now c.args.at c.args.«data».now c.args.find _ c.in-Notice.is refl
-
-pub returns-in-Low : goal.returns-in-Low
-returns-in-Low c = a_record c.args.out.now _ c.args.at _ c.args.«data».now c.args.find _ _ c.in-Low.is refl c.put_record.ensures
-
-pub returns-in-Ordinary : goal.returns-in-Ordinary
-returns-in-Ordinary c = a_record c.args.out.now _ c.args.at _ c.args.«data».now c.args.find _ _ c.in-Ordinary.is refl c.put_record-in-Ordinary.ensures
+pub returns : goal.returns
+returns c =
+    let x = c.args.«data».now in
+    elim c.match-find.branch [
+      | in-Low w ↦ a_record _ _ _ _ _ _ _ _ _ w.said-is refl (ap (λ f. packet_of f x) w.in-Low.is) c.write_record.ensures c.unwrap_or.ensures
+      | in-Ordinary w ↦ a_record _ _ _ _ _ _ _ _ _ w.said-is refl (ap (λ f. packet_of f x) w.in-Ordinary.is) c.write_record.ensures c.unwrap_or.ensures
+    ]

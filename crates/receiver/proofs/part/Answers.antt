@@ -6,4 +6,4 @@ use Rattle.receiver.proofs.part.Goals as goal
 pub returns : goal.returns
 returns c =
     let a = c.args in
-    part_is a.s.now a.start a.len c.least-from.result c.least.result c.least-from.ensures c.least.ensures
+    part_is a.s.now a.start a.len c.min-from.result c.min.result c.min-from.ensures c.min.ensures

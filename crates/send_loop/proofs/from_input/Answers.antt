@@ -1,10 +1,7 @@
--- `send_loop::from_input` is safe: behind the setup record the block goes on at byte 13.
+-- `send_loop::from_input`: the loop begins with what `open` gives.
 -- Assumes nothing.
-use native.Mathlib.Omega.{arith}
-use Rattle.console.proofs.Onward.{begins}
+use Rattle.send_loop.specs.Whole.{begins}
 use Rattle.send_loop.proofs.from_input.Goals as goal
 
-pub send-requires : goal.send-requires
-send-requires c =
-    let b = begins _ _ _ _ c.first.ensures c.in-Ready.is in
-    (omega arith, (omega (arith, b.from, b.enough), b.end))
+pub run-requires-clause-before : goal.run-requires-clause-before
+run-requires-clause-before c = let o = c.in-Ok.ensures in (o.0, begins _ o.1)

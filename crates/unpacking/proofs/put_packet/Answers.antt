@@ -18,14 +18,14 @@ returns-then-out-at c =
 pub overflow_add-result : goal.overflow_add-result
 overflow_add-result c =
     let a = c.args in
-    omega (arith, ends a.find a.sp.now a.out.now a.at (sym c.is_chapter11.ensures ∙ c.if-not-is_chapter11.false) c.if-out-at.false _ _ _ c.reassemble.ensures c.in-Done.is)
+    omega (arith, ends a.find a.sp.now a.out.now a.at (sym c.is_chapter11.ensures ∙ c.if-not-is_chapter11.false) c.if-out-at.false _ _ _ c.reassemble.ensures c.in-Ok.is)
 
-pub returns-in-Refused : goal.returns-in-Refused
-returns-in-Refused c =
+pub returns-in-Err : goal.returns-in-Err
+returns-in-Err c =
     let a = c.args in
-    left_out a.find a.sp.now a.out.now a.at (sym c.is_chapter11.ensures ∙ c.if-not-is_chapter11.false) c.if-out-at.false _ _ _ c.reassemble.ensures c.in-Refused.is
+    left_out a.find a.sp.now a.out.now a.at (sym c.is_chapter11.ensures ∙ c.if-not-is_chapter11.false) c.if-out-at.false _ _ _ c.reassemble.ensures c.in-Err.is
 
-pub returns-in-Done : goal.returns-in-Done
-returns-in-Done c =
+pub returns-in-Ok : goal.returns-in-Ok
+returns-in-Ok c =
     let a = c.args in
-    put_whole a.find a.sp.now a.out.now a.at (sym c.is_chapter11.ensures ∙ c.if-not-is_chapter11.false) c.if-out-at.false _ _ _ c.reassemble.ensures c.in-Done.is
+    put_whole a.find a.sp.now a.out.now a.at (sym c.is_chapter11.ensures ∙ c.if-not-is_chapter11.false) c.if-out-at.false _ _ _ c.reassemble.ensures c.in-Ok.is

@@ -5,4 +5,4 @@ use Rattle.wire.proofs.header_of.Goals as goal
 
 pub returns : goal.returns
 unfolding header first_number word
-returns c = rw (c.three_of-b.ensures, c.three_of-a.ensures, c.encode_pair-pair.ensures)
+returns c = rw (c.digits_of-b.ensures, c.digits_of-a.ensures, c.encode_pair-pair.ensures)

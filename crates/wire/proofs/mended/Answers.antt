@@ -1,30 +1,19 @@
 -- `wire::mended` meets its contract: a header is whole if both its words are.
 -- Assumes nothing.
-use mathlib.Core.Path.{subst}
 use native.Mathlib.Omega.{arith}
-use Rattle.golay.specs.Answers.{Mends}
-use Rattle.wire.proofs.Answers.{says, says_none, first-beyond, second-beyond, both-whole, few}
+use Rattle.wire.proofs.Answers.{first-beyond, second-beyond, both-whole, few}
 use Rattle.wire.proofs.mended.Goals as goal
 
-pub returns-in_default : goal.returns-in_default
-returns-in_default c = first-beyond _ _ (says_none _ _ c.mend.ensures c.in_default.is)
+pub returns-in_err-x : goal.returns-in_err-x
+returns-in_err-x c = rw c.from_residual.ensures (first-beyond _ _ c.in_err-x.ensures)
 
-pub returns-in_default-mend : goal.returns-in_default-mend
-returns-in_default-mend c =
-    let x = c.mend in
-    second-beyond _ _ c.in-Word.n c.in-Word.i _ (says _ _ x.ensures c.in-Word.n c.in-Word.i c.in-Word.is)
-    (says_none _ _ c.mend-2.ensures c.in_default-mend.is)
+pub returns-in_err-y : goal.returns-in_err-y
+returns-in_err-y c = rw c.from_residual-in_err-y.ensures (second-beyond _ _ c.in_ok-x.x c.in_ok-x.ensures c.in_err-y.ensures)
 
-pub overflow_add-i : goal.overflow_add-i
-overflow_add-i c =
-    let x = c.mend in
-    let y = c.mend-2 in
-    let six = few _ _ c.in-Word.n c.in-Word-mend.m c.in-Word.i c.in-Word-mend.j (subst (Mends _) c.in-Word.is x.ensures) (subst (Mends _) c.in-Word-mend.is y.ensures) in
+pub overflow_add-x : goal.overflow_add-x
+overflow_add-x c =
+    let six = few _ _ c.in_ok-x.x c.in_ok-y.y c.in_ok-x.ensures c.in_ok-y.ensures in
     omega arith
 
 pub returns : goal.returns
-returns c =
-    let x = c.mend in
-    let y = c.mend-2 in
-    both-whole _ _ c.in-Word.n c.in-Word.i _ (says _ _ x.ensures c.in-Word.n c.in-Word.i c.in-Word.is)
-    c.in-Word-mend.m c.in-Word-mend.j _ (says _ _ y.ensures c.in-Word-mend.m c.in-Word-mend.j c.in-Word-mend.is) c.header_from.result c.header_from.ensures
+returns c = rw c.header_from.ensures (both-whole _ _ c.in_ok-x.x c.in_ok-y.y c.in_ok-x.ensures c.in_ok-y.ensures)

@@ -8,7 +8,7 @@ use Rattle.wire.proofs.read_header.Goals as goal
 pub returns-then-t-eq0 : goal.returns-then-t-eq0
 unfolding header_in
 returns-then-t-eq0 c =
-    words-intact _ _ c.header_in.result (sym c.syndrome_of-s.ensures ∙ c.if-s-eq0.true) (sym c.syndrome_of-t.ensures ∙ c.if-t-eq0.true) c.header_in.ensures
+    rw c.header_in.ensures (words-intact _ _ (sym c.syndrome_of-s.ensures ∙ c.if-s-eq0.true) (sym c.syndrome_of-t.ensures ∙ c.if-t-eq0.true))
 
 pub returns : goal.returns
 unfolding header_in

@@ -5,4 +5,4 @@ use Rattle.wire.proofs.word_of.Goals as goal
 
 pub returns : goal.returns
 unfolding word
-returns c = rw (c.three_of.ensures, c.encode.ensures)
+returns c = rw (c.digits_of.ensures, c.encode.ensures)

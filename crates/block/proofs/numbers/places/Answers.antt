@@ -1,21 +1,13 @@
--- `numbers::places` meets its contract: each turn takes off the last digit and counts it.
--- Assumes nothing.
+-- Between two powers of ten. Assumes nothing.
+use mathlib.Core.Path.{sym}
 use native.Mathlib.Omega.{arith}
 use borrow.Author.Rules.{rules}
-use Rattle.block.proofs.Decimals.{count_none, count_one, count_few, count_all_lem}
+use Rattle.block.specs.Decimal.{decimal}
+use Rattle.block.proofs.Decimals.{digits_count}
 use Rattle.block.proofs.numbers.places.Goals as goal
 
-pub loop-rest-init : goal.loop-rest-init
-loop-rest-init c = count_none c.args.n (search rules)
-
-pub overflow_add-k : goal.overflow_add-k
-overflow_add-k c = omega (arith, count_few _ _ _ c.loop-rest.invariant)
-
-pub loop-rest-smaller : goal.loop-rest-smaller
-loop-rest-smaller c = omega arith
-
-pub loop-rest-preserved : goal.loop-rest-preserved
-loop-rest-preserved c = count_one _ _ _ c.loop-rest.invariant c.loop-rest-test.true
-
 pub returns : goal.returns
-returns c = count_all_lem _ _ _ c.loop-rest.invariant c.loop-rest-test.false
+unfolding decimal
+returns c =
+    let l = c.ilog10.ensures in
+    sym (digits_count 19 c.ilog10.result c.args.n (omega (arith, l.bound)) (search rules) (search rules))

@@ -7,19 +7,19 @@ use Rattle.block.proofs.numbers.put_four.Goals as goal
 pub returns-then-n-lt10 : goal.returns-then-n-lt10
 returns-then-n-lt10 c =
     let a = c.args in
-    as_put a.out.now _ a.at 1 a.n (omega (arith, c.requires.at_in_bounds)) (one_digit a.n (omega arith)) c.one.ensures
+    as_put a.out.now _ a.at 1 a.n (omega (arith, c.requires.at_in_bounds)) (one_digit a.n (omega arith)) c.last.ensures
 
 pub returns-then-n-lt100 : goal.returns-then-n-lt100
 returns-then-n-lt100 c =
     let a = c.args in
-    as_put a.out.now _ a.at 2 a.n (omega (arith, c.requires.at_in_bounds)) (two_digits a.n (omega arith) (omega arith)) c.two.ensures
+    as_put a.out.now _ a.at 2 a.n (omega (arith, c.requires.at_in_bounds)) (two_digits a.n (omega arith) (omega arith)) c.last-then-n-lt100.ensures
 
 pub returns-then-n-lt1000 : goal.returns-then-n-lt1000
 returns-then-n-lt1000 c =
     let a = c.args in
-    as_put a.out.now _ a.at 3 a.n (omega (arith, c.requires.at_in_bounds)) (three_digits a.n (omega arith) (omega arith)) c.three.ensures
+    as_put a.out.now _ a.at 3 a.n (omega (arith, c.requires.at_in_bounds)) (three_digits a.n (omega arith) (omega arith)) c.last-then-n-lt1000.ensures
 
 pub returns : goal.returns
 returns c =
     let a = c.args in
-    as_put a.out.now _ a.at 4 a.n (omega (arith, c.requires.at_in_bounds)) (four_digits a.n (omega arith) c.requires.n_bound) c.four.ensures
+    as_put a.out.now _ a.at 4 a.n (omega (arith, c.requires.at_in_bounds)) (four_digits a.n (omega arith) c.requires.n_bound) c.last-2.ensures

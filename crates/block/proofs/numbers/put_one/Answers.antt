@@ -16,4 +16,4 @@ returns-then-out-at c =
 pub returns : goal.returns
 returns c =
     let a = c.args in
-    as_put a.out.now _ a.at 1 a.n (omega arith) (one_digit a.n c.requires) c.one.ensures
+    as_put a.out.now _ a.at 1 a.n (omega arith) (one_digit a.n c.requires) c.last.ensures

@@ -1,12 +1,7 @@
--- `numbers::spell` meets its contract: each turn writes the last digit that is left, and then one is left.
--- Assumes nothing.
-use mathlib.Core.Path.{◌≡◌}
-use lib.ListN.{length}
-use Rattle.block.proofs.Decimals.{Spelt}
+-- The digits before index i are those of rest, and the others are written. Assumes nothing.
+use Rattle.std.proofs.Common.{◌≡◌, ◌++◌, length, drop}
+use Rattle.block.specs.Decimal.{padded}
 use Rattle.block.proofs.numbers.spell.Given as goal
 
-abbrev pub invariant-loop-rest : goal.invariant-loop-rest
-invariant-loop-rest l = Spelt l.initial.out l.end l.n l.out l.i l.rest × (length l.out ≡ length l.initial.out)
-
-abbrev pub decreases-loop-rest : goal.decreases-loop-rest
-decreases-loop-rest l = l.rest
+abbrev pub invariant-loop-i : goal.invariant-loop-i
+invariant-loop-i l = padded l.i l.rest ++ drop l.i l.out ≡ padded (length l.out) l.n

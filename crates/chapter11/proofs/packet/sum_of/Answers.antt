@@ -9,11 +9,11 @@ pub loop-i-init : goal.loop-i-init
 unfolding sum_of
 loop-i-init c = (search rules, refl)
 
-pub two_at-requires : goal.two_at-requires
-two_at-requires c = omega arith
+pub two_at-sum-requires : goal.two_at-sum-requires
+two_at-sum-requires c = omega arith
 
 pub loop-i-preserved : goal.loop-i-preserved
-loop-i-preserved c = (search rules, next_sum c.args.header.now c.loop-i.i c.loop-i.sum c.two_at.result c.wrapping_add_u16-sum.result c.loop-i.invariant.1 c.two_at.ensures c.wrapping_add_u16-sum.ensures.value)
+loop-i-preserved c = (search rules, next_sum c.args.header.now c.loop-i.i c.loop-i.sum c.two_at-sum.result _ c.loop-i.invariant.1 c.two_at-sum.ensures refl)
 
 pub returns : goal.returns
 returns c =

@@ -1,11 +1,15 @@
--- `chapter11::words::number_at` meets its contract.
--- Assumes nothing.
-use Rattle.chapter11.proofs.Sources.{said_word, said_beyond}
+-- What the decoder reads. Assumes nothing.
+use Rattle.std.proofs.Common.{sym, ap, ◌∙◌}
+use Rattle.wire.specs.Reading.{number_of}
+use Rattle.chapter11.proofs.Sources.{read_word}
 use Rattle.chapter11.proofs.words.number_at.Goals as goal
 
-pub returns-in-Word : goal.returns-in-Word
-returns-in-Word c =
-    said_word c.args.sp.now c.args.i c.from_three.result c.in-Word.number c.in-Word.flips c.in-Word.places c.decode.result c.from_three.ensures c.decode.ensures c.in-Word.is
+pub returns-in_err-word : goal.returns-in_err-word
+returns-in_err-word c =
+    let a = c.args in
+    c.from_residual.ensures ∙ sym (ap number_of c.in_err-word.was) ∙ read_word a.sp.now a.i _ _ c.from_three.ensures c.decode.ensures
 
-pub returns-in-Beyond : goal.returns-in-Beyond
-returns-in-Beyond c = said_beyond c.args.sp.now c.args.i c.from_three.result c.decode.result c.from_three.ensures c.decode.ensures c.in-Beyond.is
+pub returns : goal.returns
+returns c =
+    let a = c.args in
+    sym (ap number_of c.in_ok-word.was) ∙ read_word a.sp.now a.i _ _ c.from_three.ensures c.decode.ensures

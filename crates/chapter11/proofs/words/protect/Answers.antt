@@ -6,4 +6,4 @@ use Rattle.chapter11.proofs.words.protect.Goals as goal
 
 pub returns : goal.returns
 unfolding protected word
-returns c = rw (c.three_of-d.ensures, c.three_of-c.ensures, c.three_of-b.ensures, c.three_of-a.ensures, c.encode_pair-last.ensures, c.encode_pair-first.ensures)
+returns c = rw (c.digits_of-d.ensures, c.digits_of-c.ensures, c.digits_of-b.ensures, c.digits_of-a.ensures, c.encode_pair-last.ensures, c.encode_pair-first.ensures)

@@ -4,4 +4,4 @@ use Rattle.console.proofs.Laws.{as_within}
 use Rattle.console.proofs.stretch.in_block.Goals as goal
 
 pub returns : goal.returns
-returns c = as_within c.args.size c.args.unread _ _ c.least-till.ensures c.least.ensures
+returns c = as_within c.args.size c.args.unread _ _ c.min-till.ensures c.min.ensures

@@ -1,8 +1,10 @@
--- `checks::number` meets its contract: the two lookups' sum. Assumes nothing.
+-- `checks::number` meets its contract: the table passes the test. Assumes nothing.
 use mathlib.Core.Path.{refl}
-use Rattle.golay.specs.Golay.{six, checks}
-use Rattle.golay.proofs.Lookups.{in_two}
+use Rattle.golay.specs.Golay.{chosen, checks}
+use Rattle.golay.specs.declared.checks.TheConstants.{NUMBERS}
+use Rattle.golay.proofs.Lookups.{looked_up, chooses}
 use Rattle.golay.proofs.checks.number.Goals as goal
 
 pub returns : goal.returns
-returns c = in_two 6 (six checks 0) (six checks 6) _ _ _ refl c.first.ensures c.last.ensures
+unfolding chooses chosen
+returns c = looked_up 12 checks NUMBERS c.args.n refl refl tt

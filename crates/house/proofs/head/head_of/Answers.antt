@@ -3,4 +3,4 @@
 use Rattle.house.proofs.head.head_of.Goals as goal
 
 pub returns : goal.returns
-returns c = rw (c.kind_of.ensures, c.content_of.ensures, c.four_of-n.ensures, c.length_of.ensures)
+returns c = rw (c.kind_of.ensures, c.content_of.ensures, c.digits_of-n.ensures, c.length_of.ensures)

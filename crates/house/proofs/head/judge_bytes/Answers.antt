@@ -4,12 +4,15 @@ use native.Mathlib.Omega.{arith}
 use Rattle.house.specs.Records.{judged_of}
 use Rattle.house.proofs.Slicing.{other_first, other_second}
 use Rattle.house.proofs.head.judge_bytes.Goals as goal
+use Rattle.house.proofs.head.judge_bytes.Goals.{then-s-via-then-s, then-s-via-else-s+then-s-ne7}
 
 pub returns-then-s : goal.returns-then-s
-returns-then-s c = let a = c.args in other_first a.place a.s.now (omega (arith, c.shared_slice_known-2-1.given 1)) c.if-s.true
-
-pub returns-then-s-ne7 : goal.returns-then-s-ne7
-returns-then-s-ne7 c = let a = c.args in other_second a.place a.s.now (omega (arith, c.shared_slice_known-3-1.given 1)) c.if-s-ne7.true
+returns-then-s c =
+    let a = c.args in
+    elim c.then-s.branch [
+      | then-s-via-then-s w ↦ other_first a.place a.s.now (omega (arith, c.type_inv.s 1)) w.if-s.true
+      | then-s-via-else-s+then-s-ne7 w ↦ other_second a.place a.s.now (omega (arith, c.type_inv.s 1)) w.if-s-ne7.true
+    ]
 
 pub returns : goal.returns
 unfolding judged_of

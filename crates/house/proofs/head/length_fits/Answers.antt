@@ -1,16 +1,7 @@
--- `house::head::length_fits` meets its contract: the kind matched, or not, is each of the definition's tests.
+-- `house::head::length_fits` meets its contract: the kind matched is one of two.
 -- Assumes nothing.
-use borrow.Author.Tests.{ne_eqb}
+use Rattle.std.proofs.Common.{inl, inr}
 use Rattle.house.proofs.head.length_fits.Goals as goal
 
-pub returns-in-0 : goal.returns-in-0
-returns-in-0 c = rw c.in-0.is
-
 pub returns-in-3 : goal.returns-in-3
-returns-in-3 c = rw c.in-3.is
-
-pub returns-in-5 : goal.returns-in-5
-returns-in-5 c = rw c.in-5.is
-
-pub returns-in_default : goal.returns-in_default
-returns-in_default c = simp (ne_eqb _ _ c.in_default.in_default-own.rest.0.0.1, ne_eqb _ _ c.in_default.in_default-own.rest.0.1, ne_eqb _ _ c.in_default.in_default-own.rest.1)
+returns-in-3 c = elim c.in-3.is [ inl e ↦ rw e | inr e ↦ rw e ]

@@ -6,14 +6,14 @@ use Rattle.jenugathi.proofs.receiving.call.Goals as goal
 pub next-q-requires : goal.next-q-requires
 next-q-requires c =
     let a = c.args in
-    able_still a.w.now a.tp.now a.room.now c.requires _ _ _ _ c.next.ensures c.in-Other.is c.receiver_in.ensures
+    able_still a.w.now a.tp.now a.room.now c.requires _ _ _ _ c.next.ensures c.in-None.is c.receiver_in.ensures
 
-pub returns-in-Gives : goal.returns-in-Gives
-returns-in-Gives c =
+pub returns-in-Some : goal.returns-in-Some
+returns-in-Some c =
     let a = c.args in
-    swiftly a.w.now a.tp.now a.room.now c.requires _ _ _ _ _ _ _ c.next.ensures c.in-Gives.is c.find_words.ensures c.number_of.ensures
+    swiftly a.w.now a.tp.now a.room.now c.requires _ _ _ _ _ _ c.next.ensures c.in-Some.is c.find_words.ensures c.number_of.ensures
 
-pub returns-in-Other : goal.returns-in-Other
-returns-in-Other c =
+pub returns-in-None : goal.returns-in-None
+returns-in-None c =
     let a = c.args in
-    by_value a.w.now a.tp.now a.room.now c.requires _ _ _ _ _ _ _ _ _ c.next.ensures c.in-Other.is c.receiver_in.ensures c.next-q.ensures c.words_of.ensures c.find_words-in-Other.ensures c.number_of-in-Other.ensures
+    by_value a.w.now a.tp.now a.room.now c.requires _ _ _ _ _ _ _ _ _ c.next.ensures c.in-None.is c.receiver_in.ensures c.next-q.ensures c.words_of.ensures c.find_words-in-None.ensures c.number_of-in-None.ensures

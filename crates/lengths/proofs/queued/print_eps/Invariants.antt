@@ -1,10 +1,9 @@
--- `queued::print_eps` is safe and ends: each EP lies within the queue. Assumes nothing.
-use Prim.Native.Nat.{◌-◌, ◌≤◌}
-use lib.ListN.{length}
+-- Each EP lies within the queue. Assumes nothing.
+use Rattle.std.proofs.Common.{◌-◌, ◌≤◌, length}
 use Rattle.lengths.proofs.queued.print_eps.Given as goal
 
-abbrev pub invariant-loop-at : goal.invariant-loop-at
-invariant-loop-at l = l.at ≤ length l.queue
+abbrev pub invariant-loop-ep : goal.invariant-loop-ep
+invariant-loop-ep l = l.at ≤ length l.queue
 
-abbrev pub decreases-loop-at : goal.decreases-loop-at
-decreases-loop-at l = length l.queue - l.at
+abbrev pub decreases-loop-ep : goal.decreases-loop-ep
+decreases-loop-ep l = length l.queue - l.at

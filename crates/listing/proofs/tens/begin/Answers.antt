@@ -7,4 +7,4 @@ use Rattle.listing.proofs.tens.begin.Goals as goal
 pub returns : goal.returns
 returns c =
     let a = c.args in
-    begun_kept a.ten c.requires.kept a.number c.requires.number_le_last.0 c.requires.number_le_last.1 (search rules) a.out.now a.at c.requires.at_in_bounds _ _ c.piece-last.ensures
+    begun_kept a.ten c.requires.kept a.number c.requires.number_le_last.0 c.requires.number_le_last.1 (search rules) a.out.now a.at c.requires.at_in_bounds _ _ c.piece.ensures

@@ -1,10 +1,6 @@
--- `longest::receiving::block` is safe and ends: each TP begins further on. Assumes nothing.
+-- `longest::receiving::block` keeps the receiver able. Assumes nothing.
 use Rattle.receiver.specs.State.{Able}
-use Rattle.std.proofs.Common.{◌≡◌, ◌-◌, ◌≤◌, length}
 use Rattle.longest.proofs.receiving.block.Given as goal
 
-abbrev pub invariant-loop-i : goal.invariant-loop-i
-invariant-loop-i l = Able l.run.receiver × ((l.i ≤ length l.tps) × (length l.room ≡ length l.initial.room))
-
-abbrev pub decreases-loop-i : goal.decreases-loop-i
-decreases-loop-i l = length l.tps - l.i
+abbrev pub invariant-loop-tp : goal.invariant-loop-tp
+invariant-loop-tp l = Able l.run.receiver

@@ -1,10 +1,6 @@
--- `longest::receiving::blocks` is safe and ends: it counts down. Assumes nothing.
+-- `longest::receiving::blocks` keeps the receiver able. Assumes nothing.
 use Rattle.receiver.specs.State.{Able}
-use Rattle.std.proofs.Common.{◌≡◌, length}
 use Rattle.longest.proofs.receiving.blocks.Given as goal
 
-abbrev pub invariant-loop-left : goal.invariant-loop-left
-invariant-loop-left l = Able l.run.receiver × ((131264 ≡ length l.buf) × (length l.room ≡ length l.initial.room))
-
-abbrev pub decreases-loop-left : goal.decreases-loop-left
-decreases-loop-left l = l.left
+abbrev pub invariant-loop : goal.invariant-loop
+invariant-loop l = Able l.run.receiver

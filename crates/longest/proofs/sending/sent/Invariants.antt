@@ -1,10 +1,6 @@
--- `longest::sending::sent` is safe and ends: it counts down. Assumes nothing.
+-- `longest::sending::sent` keeps the sender sound. Assumes nothing.
 use Rattle.sender.specs.Opening.{Sound}
-use Rattle.std.proofs.Common.{◌≡◌, length}
 use Rattle.longest.proofs.sending.sent.Given as goal
 
-abbrev pub invariant-loop-left : goal.invariant-loop-left
-invariant-loop-left l = Sound l.run.sender × ((2051 ≡ length l.tp) × (length l.ordinary ≡ length l.initial.ordinary))
-
-abbrev pub decreases-loop-left : goal.decreases-loop-left
-decreases-loop-left l = l.left
+abbrev pub invariant-loop : goal.invariant-loop
+invariant-loop l = Sound l.run.sender

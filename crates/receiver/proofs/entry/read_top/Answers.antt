@@ -10,8 +10,8 @@ returns-then-b-stream c = let a = c.args in top_eight a.stream a.tp.now c.if-b-s
 pub returns-then-b-ne0 : goal.returns-then-b-ne0
 returns-then-b-ne0 c = let a = c.args in top_seven a.stream a.tp.now c.if-b-stream.false c.if-b-ne0.true
 
-pub returns-in-Beyond : goal.returns-in-Beyond
-returns-in-Beyond c = let a = c.args in top_nine a.stream a.tp.now c.if-b-stream.false c.if-b-ne0.false (rw c.tp_word.ensures at (sym c.read_tp_word.ensures ∙ c.in-Beyond.is))
+pub returns-in-None : goal.returns-in-None
+returns-in-None c = let a = c.args in top_nine a.stream a.tp.now c.if-b-stream.false c.if-b-ne0.false (rw c.tp_word.ensures at (sym c.read_tp_word.ensures ∙ c.in-None.is))
 
-pub returns-in-Says : goal.returns-in-Says
-returns-in-Says c = let a = c.args in top_says a.stream a.tp.now _ _ c.if-b-stream.false c.if-b-ne0.false (rw c.tp_word.ensures at (sym c.read_tp_word.ensures ∙ c.in-Says.is))
+pub returns-in-Some : goal.returns-in-Some
+returns-in-Some c = let a = c.args in top_says a.stream a.tp.now _ _ c.if-b-stream.false c.if-b-ne0.false (rw c.tp_word.ensures at (sym c.read_tp_word.ensures ∙ c.in-Some.is))

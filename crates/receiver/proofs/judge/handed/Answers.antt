@@ -2,8 +2,8 @@
 -- Assumes nothing.
 use Rattle.receiver.proofs.judge.handed.Goals as goal
 
-pub returns-in-Empty : goal.returns-in-Empty
-returns-in-Empty c = simp (c.in-Empty.is, c.more.ensures)
+pub returns-in-None : goal.returns-in-None
+returns-in-None c = simp (c.in-None.is, c.more.ensures)
 
-pub returns-in-Of : goal.returns-in-Of
-returns-in-Of c = simp (c.in-Of.is, c.stop.ensures, c.emptied.ensures)
+pub returns-in-Some : goal.returns-in-Some
+returns-in-Some c = simp (c.in-Some.is, c.stop.ensures, c.emptied.ensures)

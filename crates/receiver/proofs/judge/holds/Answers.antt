@@ -2,5 +2,5 @@
 -- Assumes nothing.
 use Rattle.receiver.proofs.judge.holds.Goals as goal
 
-pub returns-in-Of : goal.returns-in-Of
-returns-in-Of c = simp c.in-Of.is
+pub returns-in-Some : goal.returns-in-Some
+returns-in-Some c = simp c.in-Some.is

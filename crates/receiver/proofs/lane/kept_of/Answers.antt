@@ -16,5 +16,4 @@ returns c =
     let a = c.args in
     let h = c.in-Body.header in
     let fits = fits_of_lem c.fits.result h a.cap c.fits.ensures (c.if-not-fits.false) in
-    let same = same_of_lem c.is_same.result a.began a.first c.is_same.ensures (c.if-not-is_same.false) in
-    kept_busy a.cap a.phase a.began h _ c.in-Body.is a.content a.repaired a.first a.len c.requires.0 c.requires.1 fits c.if-header-content.false c.if-flips-repaired.false c.if-header-len.false same
+    kept_busy a.cap a.phase a.began h _ c.in-Body.is a.content a.repaired a.first a.len c.requires.0 c.requires.1 fits c.if-header-content.false c.if-flips-repaired.false c.if-header-len.false (same_of_lem a.began a.first c.if-ne.ensures)

@@ -40,4 +40,4 @@ entered-requires c = (omega (arith, c.if-rest-lt6.false), fits_of_lem _ _ _ c.fi
 pub returns-then-fits : goal.returns-then-fits
 returns-then-fits c =
     let a = c.args in
-    ahead_whole a.start _ a.stamp a.tp.now a.room.now (λ i. omega (arith, c.type_inv.tp i)) c.past_fill-from.ensures c.if-rest-lt6.false _ c.read_at.ensures _ c.in-Whole.is _ c.of-then-fits.ensures c.entered.result _ c.entered.ensures
+    ahead_whole a.start _ a.stamp a.tp.now a.room.now (λ i. omega (arith, c.type_inv.tp i)) c.past_fill-from.ensures c.if-rest-lt6.false _ c.read_at.ensures _ c.in-Some.is _ c.of-then-fits.ensures c.entered.result _ c.entered.ensures

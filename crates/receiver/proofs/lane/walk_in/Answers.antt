@@ -1,4 +1,5 @@
 -- `receiver::lane::walk_in` meets its contract. Assumes nothing.
+use mathlib.Core.Logic.{inl, inr}
 use native.Mathlib.Omega.{arith}
 use Rattle.receiver.proofs.lane.walk_in.Goals as goal
 
@@ -6,10 +7,11 @@ pub overflow_add-header : goal.overflow_add-header
 overflow_add-header c = let g = rw c.in-Busy.is at c.requires in omega (arith, g.1)
 
 pub returns-in-Other : goal.returns-in-Other
-returns-in-Other c = rw c.in-Other.is
-
-pub returns-in-Lost : goal.returns-in-Lost
-returns-in-Lost c = rw c.in-Lost.is
+returns-in-Other c =
+    elim c.in-Other.is [
+      | inl e ↦ rw e
+      | inr e ↦ rw e
+    ]
 
 pub returns-in-Idle : goal.returns-in-Idle
 returns-in-Idle c = rw c.in-Idle.is

@@ -13,15 +13,15 @@ returns-then-tp-at-lt7 c =
 pub closed-requires : goal.closed-requires
 closed-requires c =
     let b = c.if-tp-at-lt7.false in
-    let e = sym c.read_at.ensures ∙ c.in-Whole.is in
+    let e = sym c.read_at.ensures ∙ c.in_ok-header.was in
     (omega arith, read_few _ _ e)
 
-pub returns-in-Beyond : goal.returns-in-Beyond
-returns-in-Beyond c =
+pub returns-in_err-header : goal.returns-in_err-header
+returns-in_err-header c =
     let a = c.args in
-    item_beyond a.tp.now a.at _ c.if-tp-at-lt7.false refl (sym c.read_at.ensures ∙ c.in-Beyond.is)
+    rw c.from_residual.ensures (item_beyond a.tp.now a.at _ c.if-tp-at-lt7.false refl (sym c.read_at.ensures ∙ c.in_err-header.was))
 
-pub returns-in-Whole : goal.returns-in-Whole
-returns-in-Whole c =
+pub returns : goal.returns
+returns c =
     let a = c.args in
-    c.closed.ensures ∙ item_whole a.tp.now a.at _ _ c.if-tp-at-lt7.false refl (sym c.read_at.ensures ∙ c.in-Whole.is)
+    c.closed.ensures ∙ item_whole a.tp.now a.at _ _ c.if-tp-at-lt7.false refl (sym c.read_at.ensures ∙ c.in_ok-header.was)

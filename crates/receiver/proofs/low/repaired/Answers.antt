@@ -1,22 +1,25 @@
 -- `receiver::low::repaired` meets its contract: a total for a packet alone.
 -- Assumes nothing.
 use mathlib.Core.Path.{sym, ◌∙◌}
+use mathlib.Core.Logic.{inl, inr}
 use Rattle.receiver.proofs.low.repaired.Goals as goal
-
-pub returns-in-Fill : goal.returns-in-Fill
-returns-in-Fill c = simp (sym c.kind_of.ensures ∙ c.in-Fill.is)
-
-pub returns-in-Reserved : goal.returns-in-Reserved
-returns-in-Reserved c = simp (sym c.kind_of.ensures ∙ c.in-Reserved.is)
 
 pub returns-in-Complete : goal.returns-in-Complete
 returns-in-Complete c = simp (sym c.kind_of.ensures ∙ c.in-Complete.is)
 
-pub returns-in-First : goal.returns-in-First
-returns-in-First c = simp (sym c.kind_of.ensures ∙ c.in-First.is)
-
-pub returns-in-Middle : goal.returns-in-Middle
-returns-in-Middle c = simp (sym c.kind_of.ensures ∙ c.in-Middle.is)
-
-pub returns-in-Last : goal.returns-in-Last
-returns-in-Last c = simp (sym c.kind_of.ensures ∙ c.in-Last.is)
+pub returns-in-Fill : goal.returns-in-Fill
+returns-in-Fill c =
+    let e = sym c.kind_of.ensures in
+    elim c.in-Fill.is [
+      | inl x ↦ simp (e ∙ x)
+      | inr y ↦ elim y [
+        | inl x ↦ simp (e ∙ x)
+        | inr y ↦ elim y [
+          | inl x ↦ simp (e ∙ x)
+          | inr y ↦ elim y [
+            | inl x ↦ simp (e ∙ x)
+            | inr x ↦ simp (e ∙ x)
+          ]
+        ]
+      ]
+    ]

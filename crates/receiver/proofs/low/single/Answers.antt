@@ -7,10 +7,10 @@ use Rattle.receiver.proofs.low.single.Goals as goal
 pub passed-requires : goal.passed-requires
 passed-requires c =
     let a = c.args in
-    inside_at a.tp.now a.at _ _ (sym c.item.ensures ∙ c.in-Whole.is)
+    inside_at a.tp.now a.at _ _ (sym c.item.ensures ∙ c.in-Some.is)
 
-pub returns-in-Broken : goal.returns-in-Broken
-returns-in-Broken c = simp (sym c.item.ensures ∙ c.in-Broken.is)
+pub returns-in-None : goal.returns-in-None
+returns-in-None c = simp (sym c.item.ensures ∙ c.in-None.is)
 
-pub returns-in-Whole : goal.returns-in-Whole
-returns-in-Whole c = simp (sym c.item.ensures ∙ c.in-Whole.is, c.passed.ensures)
+pub returns-in-Some : goal.returns-in-Some
+returns-in-Some c = simp (sym c.item.ensures ∙ c.in-Some.is, c.passed.ensures)

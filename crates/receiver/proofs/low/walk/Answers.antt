@@ -5,14 +5,14 @@ use native.Mathlib.Omega.{arith}
 use Rattle.receiver.proofs.Walking.{ahead_at, goes_on_at, starts, stops_at}
 use Rattle.receiver.proofs.low.walk.Goals as goal
 
-pub loop-r-init : goal.loop-r-init
-loop-r-init c = let a = c.args in (c.requires, starts a.tp.now a.start)
+pub loop-lows-init : goal.loop-lows-init
+loop-lows-init c = let a = c.args in (c.requires, starts a.tp.now a.start)
 
-pub loop-r-smaller : goal.loop-r-smaller
-loop-r-smaller c = let a = c.args in let l = c.loop-r in omega (arith, ahead_at a.tp.now l.at _ (sym c.single.ensures ∙ c.in-More.is))
+pub loop-lows-smaller : goal.loop-lows-smaller
+loop-lows-smaller c = let a = c.args in let l = c.loop-lows in omega (arith, ahead_at a.tp.now l.at _ (sym c.single.ensures ∙ c.in-More.is))
 
-pub loop-r-preserved : goal.loop-r-preserved
-loop-r-preserved c = let a = c.args in let l = c.loop-r in ((ahead_at a.tp.now l.at _ (sym c.single.ensures ∙ c.in-More.is)).1, goes_on_at a.tp.now a.start l.at _ (sym c.single.ensures ∙ c.in-More.is) l.invariant.1)
+pub loop-lows-preserved : goal.loop-lows-preserved
+loop-lows-preserved c = let a = c.args in let l = c.loop-lows in ((ahead_at a.tp.now l.at _ (sym c.single.ensures ∙ c.in-More.is)).1, goes_on_at a.tp.now a.start l.at _ (sym c.single.ensures ∙ c.in-More.is) l.invariant.1)
 
-pub returns : goal.returns
-returns c = let a = c.args in let l = c.loop-r in stops_at a.tp.now a.start l.at _ (sym c.single.ensures ∙ c.in-Stop.is) l.invariant.1
+pub returns-in-Stop : goal.returns-in-Stop
+returns-in-Stop c = let a = c.args in let l = c.loop-lows in stops_at a.tp.now a.start l.at _ (sym c.single.ensures ∙ c.in-Stop.is) l.invariant.1

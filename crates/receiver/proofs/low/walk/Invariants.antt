@@ -5,8 +5,8 @@ use lib.ListN.{length}
 use Rattle.receiver.proofs.Walking.{Goes}
 use Rattle.receiver.proofs.low.walk.Given as goal
 
-abbrev pub invariant-loop-r : goal.invariant-loop-r
-invariant-loop-r l = (l.at ≤ length l.tp) × Goes l.tp l.start l.at
+abbrev pub invariant-loop-lows : goal.invariant-loop-lows
+invariant-loop-lows l = (l.at ≤ length l.tp) × Goes l.tp l.start l.at
 
-abbrev pub decreases-loop-r : goal.decreases-loop-r
-decreases-loop-r l = length l.tp - l.at
+abbrev pub decreases-loop-lows : goal.decreases-loop-lows
+decreases-loop-lows l = length l.tp - l.at

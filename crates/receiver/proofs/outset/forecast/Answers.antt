@@ -25,10 +25,10 @@ pub returns-in-Judged : goal.returns-in-Judged
 returns-in-Judged c =
     let a = c.args in
     let q = c.in-Judged.is in
-    rw (c.least.ensures, q) (judged_fore _ _ (drop a.at a.tp.now) (length-drop a.at a.tp.now))
+    rw (c.min.ensures, q) (judged_fore _ _ (drop a.at a.tp.now) (length-drop a.at a.tp.now))
 
 pub returns-in-Body : goal.returns-in-Body
 returns-in-Body c =
     let a = c.args in
     let q = c.in-Body.is in
-    rw (c.least-in-Body.ensures, q) (body_fore _ _ _ (drop a.at a.tp.now) (length-drop a.at a.tp.now))
+    rw (c.min-in-Body.ensures, q) (body_fore _ _ _ (drop a.at a.tp.now) (length-drop a.at a.tp.now))

@@ -12,7 +12,7 @@ pub returns-then-k-n : goal.returns-then-k-n
 returns-then-k-n c = let a = c.args in set_agree a.w a.n a.tp.now _ (sym c.forecast.ensures ∙ c.in-At.is) c.if-k-n.true
 
 pub returns-in-Off : goal.returns-in-Off
-returns-in-Off c = let a = c.args in rw c.upon-there.ensures (set_by a.w a.n a.tp.now _ (sym c.forecast.ensures ∙ c.in-Off.is))
+returns-in-Off c = let a = c.args in rw c.upon-phase.ensures (set_by a.w a.n a.tp.now _ (sym c.forecast.ensures ∙ c.in-Off.is))
 
 pub returns-in-Bad : goal.returns-in-Bad
 returns-in-Bad c = let a = c.args in set_by a.w a.n a.tp.now _ (sym c.forecast.ensures ∙ c.in-Bad.is)

@@ -11,4 +11,4 @@ returns c =
     let asked = c.says_no_start in
     let said = rw c.tp_word.ensures at (sym asked.ensures ∙ c.if-not-says_no_start.false) in
     data_if a.r a.tp.now a.room _ _ _ _ _ _ c.requires (λ i. omega (arith, c.type_inv.tp i)) (omega (arith, c.if-tp-lt10.false)) c.in-Body.is
-    c.in-Of.is (omega (arith, c.if-left-tp.false)) said c.in-Fresh.is c.if-tp-r.false c.if-room-r.false c.if-first-r.false
+    c.in-Some.is (omega (arith, c.if-left-tp.false)) said c.in-Fresh.is c.if-tp-r.false c.if-room-r.false c.if-first-r.false

@@ -4,5 +4,5 @@ use mathlib.Core.Path.{ap, sym}
 use Rattle.receiver.specs.Pieces.{data_role}
 use Rattle.receiver.proofs.pieces.data_role.Goals as goal
 
-pub returns-in-Of : goal.returns-in-Of
-returns-in-Of c = sym (ap data_role c.in-Of.is)
+pub returns-in-Some : goal.returns-in-Some
+returns-in-Some c = sym (ap data_role c.in-Some.is)

@@ -7,10 +7,10 @@ use mathlib.Core.Path.{sym, ◌∙◌}
 use Rattle.receiver.proofs.pieces.llep.Goals as goal
 
 pub behind-requires : goal.behind-requires
-behind-requires c = let a = c.args in inside_at a.tp.now a.r.walk.at _ _ (sym c.item.ensures ∙ c.in-Whole.is)
+behind-requires c = let a = c.args in inside_at a.tp.now a.r.walk.at _ _ (sym c.item.ensures ∙ c.in-Some.is)
 
-pub returns-in-Broken : goal.returns-in-Broken
-returns-in-Broken c = let a = c.args in rw (c.drop_rest.ensures, c.of-place.ensures, c.own.ensures) (llep_turn_lem a.r _ _ a.offset (length a.tp.now) (sym c.item.ensures ∙ c.in-Broken.is))
+pub returns-in-None : goal.returns-in-None
+returns-in-None c = let a = c.args in rw (c.drop_rest.ensures, c.of-place.ensures, c.own.ensures) (llep_turn_lem a.r _ _ a.offset (length a.tp.now) (sym c.item.ensures ∙ c.in-None.is))
 
-pub returns-in-Whole : goal.returns-in-Whole
-returns-in-Whole c = let a = c.args in rw c.behind.ensures (llep_turn_lem a.r _ _ a.offset (length a.tp.now) (sym c.item.ensures ∙ c.in-Whole.is))
+pub returns-in-Some : goal.returns-in-Some
+returns-in-Some c = let a = c.args in rw c.behind.ensures (llep_turn_lem a.r _ _ a.offset (length a.tp.now) (sym c.item.ensures ∙ c.in-Some.is))

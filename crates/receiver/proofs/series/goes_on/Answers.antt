@@ -13,18 +13,18 @@ begin-requires c = omega (arith, c.requires.0.able.size, c.requires.0.whole)
 
 pub overflow_add-at : goal.overflow_add-at
 overflow_add-at c =
-    let d = behind_of_lem _ _ c.args.tp.now _ c.begin.ensures c.in-Behind.is in
+    let d = behind_of_lem _ _ c.args.tp.now _ c.begin.ensures c.in_ok-n.was in
     omega (arith, within_tp _ c.args.tp.now _ _ c.requires.0 d)
 
-pub slice_bounds-move_at-end : goal.slice_bounds-move_at-end
-slice_bounds-move_at-end c =
-    let d = behind_of_lem _ _ c.args.tp.now _ c.begin.ensures c.in-Behind.is in
+pub slice_bounds-copy_at-end : goal.slice_bounds-copy_at-end
+slice_bounds-copy_at-end c =
+    let d = behind_of_lem _ _ c.args.tp.now _ c.begin.ensures c.in_ok-n.was in
     omega (arith, within_tp _ c.args.tp.now _ _ c.requires.0 d)
 
 pub overflow_add-result : goal.overflow_add-result
 overflow_add-result c =
     let a = c.args in
-    let b = busy_by (receiver_in a.w.now) _ c.receiver_in-r.ensures _ _ _ _ _ _ c.in-Fresh.is c.in-Body.is c.in-Of.is in
+    let b = busy_by (receiver_in a.w.now) _ c.receiver_in-r.ensures _ _ _ _ _ _ c.in-Fresh.is c.in-Body.is c.in_ok-kept.was in
     let f = kept_in_lem (receiver_in a.w.now) a.tp.now c.requires.0 a.room.now a.room.now a.tp.now c.requires.1 refl _ _ _ _ _ _ b in
     omega (arith, f, c.if-n-left.false)
 
@@ -32,6 +32,6 @@ pub returns : goal.returns
 returns c =
     let a = c.args in
     let e = c.receiver_in-r.ensures in
-    let b = busy_by (receiver_in a.w.now) _ e _ _ _ _ _ _ c.in-Fresh.is c.in-Body.is c.in-Of.is in
-    let d = behind_of_lem _ _ a.tp.now _ c.begin.ensures c.in-Behind.is in
-    goes_on (receiver_in a.w.now) a.tp.now c.requires.0 a.room.now _ c.requires.1 (search rules) (λ i. omega (arith, c.type_inv.tp i)) _ _ _ _ _ _ _ _ b (rw e at d) c.if-n-left.false (rw e at c.counted.ensures) c.move_at.ensures c.if-header-lt1.false c.if-header-gt2.false c.if-content-lt1.false c.if-repaired-gt4294967295.false
+    let b = busy_by (receiver_in a.w.now) _ e _ _ _ _ _ _ c.in-Fresh.is c.in-Body.is c.in_ok-kept.was in
+    let d = behind_of_lem _ _ a.tp.now _ c.begin.ensures c.in_ok-n.was in
+    goes_on (receiver_in a.w.now) a.tp.now c.requires.0 a.room.now _ c.requires.1 (search rules) (λ i. omega (arith, c.type_inv.tp i)) _ _ _ _ _ _ _ _ b (rw e at d) c.if-n-left.false (rw e at c.counted.ensures) c.copy_at.ensures c.if-header-lt1.false c.if-header-gt2.false c.if-kept-lt1.false c.if-kept-gt4294967295.false

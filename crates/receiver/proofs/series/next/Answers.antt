@@ -1,8 +1,7 @@
 -- `receiver::series::next` meets its contract: what the series comes to, by the receiver whose words these are.
 -- Assumes nothing.
-use native.Mathlib.Omega.{arith}
 use Rattle.receiver.specs.Words.{receiver_in}
-use Rattle.receiver.proofs.Serially.{as_it_was, chain_as, serially, words_by}
+use Rattle.receiver.proofs.Serially.{chain_as, serially, words_by}
 use borrow.Author.Rules.{rules}
 use Rattle.receiver.proofs.series.next.Goals as goal
 
@@ -11,20 +10,9 @@ chain_of-requires c =
     let a = c.args in
     (c.requires, words_by a.w.now a.tp.now a.room.now c.requires c.if-tp-w.false c.if-room-w.false)
 
-pub course_of-course-requires : goal.course_of-course-requires
-course_of-course-requires c =
-    let a = c.args in
-    let d = chain_as _ (receiver_in a.w.now) a.tp.now a.room.now _ _ _ _ _ _ _ _ _ _ c.chain_of.ensures c.in-Of.is in
-    (d.within, omega (arith, d.roomy), d.known)
-
-pub returns-in-No : goal.returns-in-No
-returns-in-No c =
-    let a = c.args in
-    as_it_was a.w.now a.tp.now a.room.now c.requires _ _ c.chain_of.ensures c.in-No.is
-
-pub returns-in-Of : goal.returns-in-Of
-returns-in-Of c =
+pub returns : goal.returns
+returns c =
     let a = c.args in
     let l = words_by a.w.now a.tp.now a.room.now c.requires c.if-tp-w.false c.if-room-w.false in
-    let d = chain_as _ (receiver_in a.w.now) a.tp.now a.room.now _ _ _ _ _ _ _ _ _ _ c.chain_of.ensures c.in-Of.is in
+    let d = chain_as _ (receiver_in a.w.now) a.tp.now a.room.now _ _ c.chain_of.ensures c.in_ok-chain.was in
     serially a.w.now a.tp.now a.room.now c.requires _ _ _ l (search rules) (search rules) _ _ _ _ _ _ _ _ _ d _ c.course_of-course.ensures _ c.receiver_in-r.ensures _ c.behind.ensures

@@ -16,36 +16,36 @@ returns-in_default c =
     run_stops a.tp.now (λ i. omega (arith, c.type_inv.tp i)) a.start a.content a.first a.room.now _ (search rules) _ _ c.past_middles-joined.ensures
 
 pub overflow_sub-tp : goal.overflow_sub-tp
-overflow_sub-tp c = let f = later_of _ _ _ _ _ _ c.later_at.ensures c.in-Whole.is in omega (arith, f.0.six)
+overflow_sub-tp c = let f = later_of _ _ _ _ _ _ c.later_at.ensures c.in-Some.is in omega (arith, f.0.six)
 
-pub slice_bounds-move_at-end : goal.slice_bounds-move_at-end
-slice_bounds-move_at-end c =
-    let n = c.least-n.ensures in
-    let f = later_of _ _ _ _ _ _ c.later_at.ensures c.in-Whole.is in
+pub slice_bounds-copy_at-end : goal.slice_bounds-copy_at-end
+slice_bounds-copy_at-end c =
+    let n = c.min-n.ensures in
+    let f = later_of _ _ _ _ _ _ c.later_at.ensures c.in-Some.is in
     omega (arith, f.0.six)
 
 pub overflow_add-result : goal.overflow_add-result
 overflow_add-result c =
     let a = c.args in
-    let f = later_of _ _ _ _ _ _ c.later_at.ensures c.in-Whole.is in
-    let g = run_fits a.tp.now (λ i. omega (arith, c.type_inv.tp i)) a.start a.content a.first a.room.now _ (search rules) _ _ c.past_middles-joined.ensures _ f _ c.least-n.ensures _ c.move_at.ensures in
+    let f = later_of _ _ _ _ _ _ c.later_at.ensures c.in-Some.is in
+    let g = run_fits a.tp.now (λ i. omega (arith, c.type_inv.tp i)) a.start a.content a.first a.room.now _ (search rules) _ _ c.past_middles-joined.ensures _ f _ c.min-n.ensures _ c.copy_at.ensures in
     omega (arith, g, c.well_formed.1.1.1.1.0.0)
 
 pub returns-then-n-h : goal.returns-then-n-h
 returns-then-n-h c =
     let a = c.args in
-    let f = later_of _ _ _ _ _ _ c.later_at.ensures c.in-Whole.is in
-    run_cut a.tp.now (λ i. omega (arith, c.type_inv.tp i)) a.start a.content a.first a.room.now _ (search rules) _ _ c.past_middles-joined.ensures _ f _ c.least-n.ensures _ c.move_at.ensures c.if-n-h.true
+    let f = later_of _ _ _ _ _ _ c.later_at.ensures c.in-Some.is in
+    run_cut a.tp.now (λ i. omega (arith, c.type_inv.tp i)) a.start a.content a.first a.room.now _ (search rules) _ _ c.past_middles-joined.ensures _ f _ c.min-n.ensures _ c.copy_at.ensures c.if-n-h.true
 
 pub overflow_add-result-2 : goal.overflow_add-result-2
 overflow_add-result-2 c =
     let a = c.args in
-    let f = later_of _ _ _ _ _ _ c.later_at.ensures c.in-Whole.is in
-    let g = run_fits a.tp.now (λ i. omega (arith, c.type_inv.tp i)) a.start a.content a.first a.room.now _ (search rules) _ _ c.past_middles-joined.ensures _ f _ c.least-n.ensures _ c.move_at.ensures in
+    let f = later_of _ _ _ _ _ _ c.later_at.ensures c.in-Some.is in
+    let g = run_fits a.tp.now (λ i. omega (arith, c.type_inv.tp i)) a.start a.content a.first a.room.now _ (search rules) _ _ c.past_middles-joined.ensures _ f _ c.min-n.ensures _ c.copy_at.ensures in
     omega (arith, g, c.well_formed.1.1.1.1.0.0)
 
 pub returns : goal.returns
 returns c =
     let a = c.args in
-    let f = later_of _ _ _ _ _ _ c.later_at.ensures c.in-Whole.is in
-    run_whole a.tp.now (λ i. omega (arith, c.type_inv.tp i)) a.start a.content a.first a.room.now _ (search rules) _ _ c.past_middles-joined.ensures _ f _ c.least-n.ensures _ c.move_at.ensures c.if-n-h.false
+    let f = later_of _ _ _ _ _ _ c.later_at.ensures c.in-Some.is in
+    run_whole a.tp.now (λ i. omega (arith, c.type_inv.tp i)) a.start a.content a.first a.room.now _ (search rules) _ _ c.past_middles-joined.ensures _ f _ c.min-n.ensures _ c.copy_at.ensures c.if-n-h.false

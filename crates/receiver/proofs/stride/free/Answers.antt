@@ -13,10 +13,10 @@ returns-in_default c =
 
 pub taken-requires : goal.taken-requires
 taken-requires c =
-    let f = complete_of_lem _ _ _ _ _ c.readable_at.ensures c.in-Whole.is in (omega (arith, f.0.stands.six), f.1, f.0.kind)
+    let f = complete_of_lem _ _ _ _ _ c.readable_at.ensures c.in-Some.is in (omega (arith, f.0.stands.six), f.1, f.0.kind)
 
 pub returns : goal.returns
 returns c =
     let a = c.args in
-    let f = complete_of_lem _ _ _ _ _ c.readable_at.ensures c.in-Whole.is in
+    let f = complete_of_lem _ _ _ _ _ c.readable_at.ensures c.in-Some.is in
     free_complete (length a.room.now) a.stamp a.tp.now a.start _ a.began a.room.now _ refl (λ i. omega (arith, c.type_inv.tp i)) c.past_fill-at.ensures _ f.0 f.1 _ (rw c.of.ensures at c.taken.ensures.value) c.taken.ensures.room_after

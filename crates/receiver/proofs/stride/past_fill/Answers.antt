@@ -16,19 +16,19 @@ fill_at-requires c =
 
 pub overflow_add-at : goal.overflow_add-at
 overflow_add-at c =
-    let f = fill_of _ _ _ _ c.fill_at.ensures c.in-Whole.is in omega (arith, f.1)
+    let f = fill_of _ _ _ _ c.fill_at.ensures c.in-Some.is in omega (arith, f.1)
 
-pub overflow_add-at-in-Whole : goal.overflow_add-at-in-Whole
-overflow_add-at-in-Whole c =
-    let f = fill_of _ _ _ _ c.fill_at.ensures c.in-Whole.is in omega (arith, f.1)
+pub overflow_add-at-in-Some : goal.overflow_add-at-in-Some
+overflow_add-at-in-Some c =
+    let f = fill_of _ _ _ _ c.fill_at.ensures c.in-Some.is in omega (arith, f.1)
 
 pub loop-h-smaller : goal.loop-h-smaller
 loop-h-smaller c =
-    let f = fill_of _ _ _ _ c.fill_at.ensures c.in-Whole.is in omega (arith, f.1)
+    let f = fill_of _ _ _ _ c.fill_at.ensures c.in-Some.is in omega (arith, f.1)
 
 pub loop-h-preserved : goal.loop-h-preserved
 loop-h-preserved c =
-    let f = fill_of _ _ _ _ c.fill_at.ensures c.in-Whole.is in let a = c.args in let l = c.loop-h in skips_on a.tp.now a.start l.at _ l.invariant (fill_skips a.tp.now (λ i. omega (arith, c.type_inv.tp i)) l.at _ _ f.0 f.1 refl)
+    let f = fill_of _ _ _ _ c.fill_at.ensures c.in-Some.is in let a = c.args in let l = c.loop-h in skips_on a.tp.now a.start l.at _ l.invariant (fill_skips a.tp.now (λ i. omega (arith, c.type_inv.tp i)) l.at _ _ f.0 f.1 refl)
 
 pub returns : goal.returns
 returns c =

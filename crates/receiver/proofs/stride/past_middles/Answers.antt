@@ -23,40 +23,40 @@ middle_at-requires c =
 
 pub overflow_add-from : goal.overflow_add-from
 overflow_add-from c =
-    let f = middle_of _ _ _ _ _ _ c.middle_at.ensures c.in-Whole.is in omega (arith, f.3)
+    let f = middle_of _ _ _ _ _ _ c.middle_at.ensures c.in-Some.is in omega (arith, f.3)
 
 pub overflow_add-at : goal.overflow_add-at
 overflow_add-at c =
-    let f = middle_of _ _ _ _ _ _ c.middle_at.ensures c.in-Whole.is in omega (arith, f.3)
+    let f = middle_of _ _ _ _ _ _ c.middle_at.ensures c.in-Some.is in omega (arith, f.3)
 
-pub slice_bounds-move_at-count : goal.slice_bounds-move_at-count
-slice_bounds-move_at-count c =
-    let f = middle_of _ _ _ _ _ _ c.middle_at.ensures c.in-Whole.is in omega (arith, f.3)
+pub slice_bounds-copy_at-count : goal.slice_bounds-copy_at-count
+slice_bounds-copy_at-count c =
+    let f = middle_of _ _ _ _ _ _ c.middle_at.ensures c.in-Some.is in omega (arith, f.3)
 
-pub slice_bounds-move_at-start : goal.slice_bounds-move_at-start
-slice_bounds-move_at-start c =
-    let f = middle_of _ _ _ _ _ _ c.middle_at.ensures c.in-Whole.is in omega (arith, f.3)
+pub slice_bounds-copy_at-start : goal.slice_bounds-copy_at-start
+slice_bounds-copy_at-start c =
+    let f = middle_of _ _ _ _ _ _ c.middle_at.ensures c.in-Some.is in omega (arith, f.3)
 
-pub slice_bounds-move_at-end : goal.slice_bounds-move_at-end
-slice_bounds-move_at-end c =
-    let f = middle_of _ _ _ _ _ _ c.middle_at.ensures c.in-Whole.is in omega (arith, f.3)
+pub slice_bounds-copy_at-end : goal.slice_bounds-copy_at-end
+slice_bounds-copy_at-end c =
+    let f = middle_of _ _ _ _ _ _ c.middle_at.ensures c.in-Some.is in omega (arith, f.3)
 
 pub overflow_add-len : goal.overflow_add-len
 overflow_add-len c =
-    let f = middle_of _ _ _ _ _ _ c.middle_at.ensures c.in-Whole.is in let l = c.loop-h in omega (arith, f.2, l.invariant.0, l.invariant.1.roomy)
+    let f = middle_of _ _ _ _ _ _ c.middle_at.ensures c.in-Some.is in let l = c.loop-h in omega (arith, f.2, l.invariant.0, l.invariant.1.roomy)
 
 pub loop-h-smaller : goal.loop-h-smaller
 loop-h-smaller c =
-    let f = middle_of _ _ _ _ _ _ c.middle_at.ensures c.in-Whole.is in omega (arith, f.3)
+    let f = middle_of _ _ _ _ _ _ c.middle_at.ensures c.in-Some.is in omega (arith, f.3)
 
 pub loop-h-preserved : goal.loop-h-preserved
 loop-h-preserved c =
-    let f = middle_of _ _ _ _ _ _ c.middle_at.ensures c.in-Whole.is in let a = c.args in
+    let f = middle_of _ _ _ _ _ _ c.middle_at.ensures c.in-Some.is in let a = c.args in
     let l = c.loop-h in
     let r = c.loop-h.invariant.1.roomy in
     let z = c.loop-h.invariant.0 in
-    let put = middle_put a.tp.now (length a.room.now) a.content l.room _ (l.at + 6) _ l.len (omega (arith, f.3)) (omega (arith, f.2)) c.move_at.ensures in
-    let n : length c.move_at.new.dst ≡ length a.room.now = search rules in
+    let put = middle_put a.tp.now (length a.room.now) a.content l.room _ (l.at + 6) _ l.len (omega (arith, f.3)) (omega (arith, f.2)) c.copy_at.ensures in
+    let n : length c.copy_at.new.dst ≡ length a.room.now = search rules in
     (n, joins_on a.tp.now (length a.room.now) a.content a.start a.first a.room.now l.at l.len l.room _ _ _ l.invariant.1 (middle_joins a.tp.now (length a.room.now) a.content (λ i. omega (arith, c.type_inv.tp i)) l.room _ z l.at l.len _ _ _ f.0 f.4 f.1 r (omega (arith, f.2)) f.3 refl refl put))
 
 pub returns : goal.returns

@@ -15,9 +15,9 @@ overflow_add-kept c =
 pub returns-then-rest-left : goal.returns-then-rest-left
 returns-then-rest-left c =
     let a = c.args in
-    let b = behind_of_lem _ a.r.stream a.tp.now _ c.begin.ensures c.in-Behind.is in
-    let e = sym c.least.ensures ∙ c.if-least-n.false in
-    rw c.nothing.ensures (kept_cut a.r a.tp.now c.requires.0 a.room.now _ _ c.requires.2 (search rules) a.header a.left _ _ _ _ _ _ c.requires.1 (λ i. omega (arith, c.type_inv.tp i)) b e c.counted-count.ensures c.move_at.ensures c.if-rest-left.true _ refl (c.put.ensures.w_after, c.put.ensures.bytes))
+    let b = behind_of_lem _ a.r.stream a.tp.now _ c.begin.ensures c.in_ok-n.was in
+    let e = sym c.min.ensures ∙ c.if-min-n.false in
+    rw c.nothing.ensures (kept_cut a.r a.tp.now c.requires.0 a.room.now _ _ c.requires.2 (search rules) a.header a.left _ _ _ _ _ _ c.requires.1 (λ i. omega (arith, c.type_inv.tp i)) b e c.counted-count.ensures c.copy_at.ensures c.if-rest-left.true _ refl (c.put.ensures.w_after, c.put.ensures.bytes))
 
 pub overflow_add-find : goal.overflow_add-find
 overflow_add-find c =
@@ -28,6 +28,6 @@ overflow_add-find c =
 pub returns : goal.returns
 returns c =
     let a = c.args in
-    let b = behind_of_lem _ a.r.stream a.tp.now _ c.begin.ensures c.in-Behind.is in
-    let e = sym c.least.ensures ∙ c.if-least-n.false in
-    kept_whole a.r a.tp.now c.requires.0 a.room.now _ _ c.requires.2 (search rules) a.header a.left _ _ _ _ _ _ c.requires.1 (λ i. omega (arith, c.type_inv.tp i)) b e c.counted-count.ensures c.move_at-2.ensures c.if-rest-left.false (sym c.hands.ensures ∙ c.if-not-hands.false) (rw c.between.ensures at c.put-2.ensures.w_after)
+    let b = behind_of_lem _ a.r.stream a.tp.now _ c.begin.ensures c.in_ok-n.was in
+    let e = sym c.min.ensures ∙ c.if-min-n.false in
+    kept_whole a.r a.tp.now c.requires.0 a.room.now _ _ c.requires.2 (search rules) a.header a.left _ _ _ _ _ _ c.requires.1 (λ i. omega (arith, c.type_inv.tp i)) b e c.counted-count.ensures c.copy_at-2.ensures c.if-rest-left.false (sym c.hands.ensures ∙ c.if-not-hands.false) (rw c.between.ensures at c.put-2.ensures.w_after)

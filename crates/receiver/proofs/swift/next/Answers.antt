@@ -26,10 +26,10 @@ tested c = subst (λ (v : List ℕ). (fitb v ≡ true) × (length c.args.tp.now 
 pub low_again-requires : goal.low_again-requires
 low_again-requires c = (c.requires, c.if-w-eq1.true, words_whole c.args.w.now c.args.tp.now c.if-tp-w.false)
 
-pub returns-in-Gives : goal.returns-in-Gives
-returns-in-Gives c =
+pub returns-in-Some : goal.returns-in-Some
+returns-in-Some c =
     let a = c.args in
-    told_as (receiver_in a.w.now) a.tp.now a.room.now a.w.now _ (words_full a.w.now a.room.now c.if-room-w.false) c.low_again.result _ c.in-Gives.is c.low_again.ensures
+    told_as (receiver_in a.w.now) a.tp.now a.room.now a.w.now _ (words_full a.w.now a.room.now c.if-room-w.false) c.low_again.result _ c.in-Some.is c.low_again.ensures
 
 pub lane_in-lane-requires : goal.lane_in-lane-requires
 lane_in-lane-requires c = (tested c).0

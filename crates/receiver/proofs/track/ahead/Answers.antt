@@ -19,10 +19,10 @@ pub returns-then-rest-h : goal.returns-then-rest-h
 returns-then-rest-h c =
     let a = c.args in
     let fits = fits_of_lem c.fits.result _ a.most c.fits.ensures (c.if-not-fits.false) in
-    seen_begins a.start _ a.tp.now (λ i. omega (arith, c.type_inv.tp i)) c.past_fill-from.ensures c.if-rest-lt6.false _ c.read_at.ensures _ c.in-Whole.is a.most fits c.seen.result c.seen.ensures.0 c.seen.ensures.1 c.if-rest-h.true
+    seen_begins a.start _ a.tp.now (λ i. omega (arith, c.type_inv.tp i)) c.past_fill-from.ensures c.if-rest-lt6.false _ c.read_at.ensures _ c.in-Some.is a.most fits c.seen.result c.seen.ensures.0 c.seen.ensures.1 c.if-rest-h.true
 
 pub returns : goal.returns
 returns c =
     let a = c.args in
     let fits = fits_of_lem c.fits.result _ a.most c.fits.ensures (c.if-not-fits.false) in
-    seen_whole a.start _ a.tp.now (λ i. omega (arith, c.type_inv.tp i)) c.past_fill-from.ensures c.if-rest-lt6.false _ c.read_at.ensures _ c.in-Whole.is a.most fits c.seen-2.result c.seen-2.ensures.0 c.if-rest-h.false
+    seen_whole a.start _ a.tp.now (λ i. omega (arith, c.type_inv.tp i)) c.past_fill-from.ensures c.if-rest-lt6.false _ c.read_at.ensures _ c.in-Some.is a.most fits c.seen-2.result c.seen-2.ensures.0 c.if-rest-h.false

@@ -14,25 +14,25 @@ pub returns-then-tp-r-2 : goal.returns-then-tp-r-2
 returns-then-tp-r-2 c = undropped c.args.r c.args.tp.now
 
 pub returns-then-w-eq-NO_START : goal.returns-then-w-eq-NO_START
-returns-then-w-eq-NO_START c = word_over c.args.r c.args.tp.now c.requires.0 c.if-tp-r.false c.if-tp-r-2.false _ c.tp_word-w.ensures c.if-w-eq-NO_START.true
+returns-then-w-eq-NO_START c = word_over c.args.r c.args.tp.now c.requires c.if-tp-r.false c.if-tp-r-2.false _ c.tp_word-w.ensures c.if-w-eq-NO_START.true
 
 pub returns-in_default : goal.returns-in_default
-returns-in_default c = beyond_told c.args.r c.args.tp.now c.requires.0 c.if-tp-r.false c.if-tp-r-2.false _ c.tp_word-w.ensures _ c.read_tp_word.ensures c.in_default.is
+returns-in_default c = beyond_told c.args.r c.args.tp.now c.requires c.if-tp-r.false c.if-tp-r-2.false _ c.tp_word-w.ensures _ c.read_tp_word.ensures c.in_default.is
 
-pub returns-in-Broken : goal.returns-in-Broken
-returns-in-Broken c = broken_told c.args.r c.args.tp.now c.requires.0 c.if-tp-r.false c.if-tp-r-2.false _ c.tp_word-w.ensures _ c.read_tp_word.ensures _ _ c.in-Says.is c.if-low.true _ c.item.ensures c.in-Broken.is
+pub returns-then-is_none : goal.returns-then-is_none
+returns-then-is_none c = broken_told c.args.r c.args.tp.now c.requires c.if-tp-r.false c.if-tp-r-2.false _ c.tp_word-w.ensures _ c.read_tp_word.ensures _ _ c.in-Some.is c.if-low.true _ c.item.ensures c.if-is_none.ensures
 
 pub returns-then-low : goal.returns-then-low
 returns-then-low c = undropped c.args.r c.args.tp.now
 
 pub returns-then-offset-eq2047 : goal.returns-then-offset-eq2047
-returns-then-offset-eq2047 c = none_begins c.args.r c.args.tp.now c.requires.0 c.if-tp-r.false c.if-tp-r-2.false _ c.tp_word-w.ensures _ c.read_tp_word.ensures _ _ c.in-Says.is c.if-low.false c.if-offset-eq2047.true
+returns-then-offset-eq2047 c = none_begins c.args.r c.args.tp.now c.requires c.if-tp-r.false c.if-tp-r-2.false _ c.tp_word-w.ensures _ c.read_tp_word.ensures _ _ c.in-Some.is c.if-low.false c.if-offset-eq2047.true
 
 pub overflow_add-offset : goal.overflow_add-offset
-overflow_add-offset c = omega (arith, offset_small c.args.r c.args.tp.now c.requires.0 c.if-tp-r.false c.if-tp-r-2.false _ c.tp_word-w.ensures _ c.read_tp_word.ensures _ _ c.in-Says.is)
+overflow_add-offset c = omega (arith, offset_small c.args.r c.args.tp.now c.requires c.if-tp-r.false c.if-tp-r-2.false _ c.tp_word-w.ensures _ c.read_tp_word.ensures _ _ c.in-Some.is)
 
 pub returns-then-tp-offset : goal.returns-then-tp-offset
-returns-then-tp-offset c = outside_told c.args.r c.args.tp.now c.requires.0 c.if-tp-r.false c.if-tp-r-2.false _ c.tp_word-w.ensures _ c.read_tp_word.ensures _ _ c.in-Says.is c.if-low.false c.if-offset-eq2047.false c.if-tp-offset.true
+returns-then-tp-offset c = outside_told c.args.r c.args.tp.now c.requires c.if-tp-r.false c.if-tp-r-2.false _ c.tp_word-w.ensures _ c.read_tp_word.ensures _ _ c.in-Some.is c.if-low.false c.if-offset-eq2047.false c.if-tp-offset.true
 
 pub returns : goal.returns
 returns c = undropped c.args.r c.args.tp.now

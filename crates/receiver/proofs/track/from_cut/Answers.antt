@@ -11,7 +11,7 @@ use Rattle.receiver.proofs.track.from_cut.Goals as goal
 pub head-requires : goal.head-requires
 head-requires c =
     let y = tidy_by (length c.args.room.now) c.args.t 2 c.requires.0 c.requires.1 in
-    record { book = c.requires.5; le_have = (y.0, y.1, y.2, c.requires.3) }
+    (y.0, y.1, y.2, c.requires.3)
 
 pub returns-in_default : goal.returns-in_default
 returns-in_default c =
@@ -26,7 +26,7 @@ overflow_sub-start c =
 pub overflow_sub-rest : goal.overflow_sub-rest
 overflow_sub-rest c =
     let y = (tidy_by (length c.args.room.now) c.args.t 2 c.requires.0 c.requires.1).1 in
-    let w = head_whole (length c.args.tp.now - c.args.here) (6 - c.args.t.have) _ _ c.in-Whole.h c.head.ensures c.in-Whole.is in
+    let w = head_whole (length c.args.tp.now - c.args.here) (6 - c.args.t.have) _ _ c.in-Some.h c.head.ensures c.in-Some.is in
     omega (arith, y, w.0, c.requires.3)
 
 pub returns-then-offset-end : goal.returns-then-offset-end
@@ -37,8 +37,8 @@ returns-then-offset-end c =
 pub returns-then-h-eq0 : goal.returns-then-h-eq0
 returns-then-h-eq0 c =
     let a = c.args in
-    let w = head_whole (length c.args.tp.now - c.args.here) (6 - c.args.t.have) _ _ c.in-Whole.h c.head.ensures c.in-Whole.is in
-    cut_at a.t a.offset a.here a.tp.now a.room.now c.requires.0 c.requires.1 (λ i. omega (arith, c.type_inv.tp i)) c.requires.3 c.in-Whole.h _ refl w.0 w.1 _ c.requires.4 c.if-n-rest.true c.if-offset-end.false c.if-h-eq0.true c.out_with-then-h-eq0.ensures
+    let w = head_whole (length c.args.tp.now - c.args.here) (6 - c.args.t.have) _ _ c.in-Some.h c.head.ensures c.in-Some.is in
+    cut_at a.t a.offset a.here a.tp.now a.room.now c.requires.0 c.requires.1 (λ i. omega (arith, c.type_inv.tp i)) c.requires.3 c.in-Some.h _ refl w.0 w.1 _ c.requires.4 c.if-n-rest.true c.if-offset-end.false c.if-h-eq0.true c.out_with-then-h-eq0.ensures
 
 pub returns-then-not-fits : goal.returns-then-not-fits
 returns-then-not-fits c =
@@ -48,9 +48,9 @@ returns-then-not-fits c =
 pub returns-then-n-rest : goal.returns-then-n-rest
 returns-then-n-rest c =
     let a = c.args in
-    let w = head_whole (length c.args.tp.now - c.args.here) (6 - c.args.t.have) _ _ c.in-Whole.h c.head.ensures c.in-Whole.is in
-    let f = fits_of_lem c.fits.result c.in-Whole.h (length a.room.now) c.fits.ensures (c.if-not-fits.false) in
-    cut_packet a.t a.offset a.here a.tp.now a.room.now c.requires.0 c.requires.1 (λ i. omega (arith, c.type_inv.tp i)) c.requires.3 c.in-Whole.h _ refl w.0 w.1 _ f c.requires.4 c.if-n-rest.true c.if-offset-end.false c.copy_at.ensures
+    let w = head_whole (length c.args.tp.now - c.args.here) (6 - c.args.t.have) _ _ c.in-Some.h c.head.ensures c.in-Some.is in
+    let f = fits_of_lem c.fits.result c.in-Some.h (length a.room.now) c.fits.ensures (c.if-not-fits.false) in
+    cut_packet a.t a.offset a.here a.tp.now a.room.now c.requires.0 c.requires.1 (λ i. omega (arith, c.type_inv.tp i)) c.requires.3 c.in-Some.h _ refl w.0 w.1 _ f c.requires.4 c.if-n-rest.true c.if-offset-end.false c.copy_at.ensures
 
 pub returns-then-offset-ne2047 : goal.returns-then-offset-ne2047
 returns-then-offset-ne2047 c =
@@ -70,18 +70,18 @@ returns-then-not-fits-2 c =
 pub slice_bounds-copy_at-count-2 : goal.slice_bounds-copy_at-count-2
 slice_bounds-copy_at-count-2 c =
     let y = (tidy_by (length c.args.room.now) c.args.t 2 c.requires.0 c.requires.1).1 in
-    let w = head_whole (length c.args.tp.now - c.args.here) (6 - c.args.t.have) _ _ c.in-Whole.h c.head.ensures c.in-Whole.is in
+    let w = head_whole (length c.args.tp.now - c.args.here) (6 - c.args.t.have) _ _ c.in-Some.h c.head.ensures c.in-Some.is in
     omega (arith, y, w.0, c.requires.3)
 
 pub slice_bounds-copy_at-start-2 : goal.slice_bounds-copy_at-start-2
 slice_bounds-copy_at-start-2 c =
     let y = (tidy_by (length c.args.room.now) c.args.t 2 c.requires.0 c.requires.1).1 in
-    let w = head_whole (length c.args.tp.now - c.args.here) (6 - c.args.t.have) _ _ c.in-Whole.h c.head.ensures c.in-Whole.is in
+    let w = head_whole (length c.args.tp.now - c.args.here) (6 - c.args.t.have) _ _ c.in-Some.h c.head.ensures c.in-Some.is in
     omega (arith, y, w.0, c.requires.3)
 
 pub returns : goal.returns
 returns c =
     let a = c.args in
-    let w = head_whole (length c.args.tp.now - c.args.here) (6 - c.args.t.have) _ _ c.in-Whole.h c.head.ensures c.in-Whole.is in
-    let f = fits_of_lem c.fits-2.result c.in-Whole.h (length a.room.now) c.fits-2.ensures (c.if-not-fits-2.false) in
-    cut_over a.t a.offset a.here a.tp.now a.room.now c.requires.0 c.requires.1 (λ i. omega (arith, c.type_inv.tp i)) c.requires.3 c.in-Whole.h _ refl w.0 w.1 _ f _ c.place_of-began.result c.busy.result (omega (arith, c.if-n-rest.false, c.if-n-rest-2.false)) c.if-offset-ne2047.false c.copy_at-2.ensures (omega arith) c.place_of-began.ensures c.busy.ensures.0 c.busy.ensures.1 c.busy.ensures.2 c.out_with-2.ensures
+    let w = head_whole (length c.args.tp.now - c.args.here) (6 - c.args.t.have) _ _ c.in-Some.h c.head.ensures c.in-Some.is in
+    let f = fits_of_lem c.fits-2.result c.in-Some.h (length a.room.now) c.fits-2.ensures (c.if-not-fits-2.false) in
+    cut_over a.t a.offset a.here a.tp.now a.room.now c.requires.0 c.requires.1 (λ i. omega (arith, c.type_inv.tp i)) c.requires.3 c.in-Some.h _ refl w.0 w.1 _ f _ c.place_of-began.result c.busy.result (omega (arith, c.if-n-rest.false, c.if-n-rest-2.false)) c.if-offset-ne2047.false c.copy_at-2.ensures (omega arith) c.place_of-began.ensures c.busy.ensures.0 c.busy.ensures.1 c.busy.ensures.2 c.out_with-2.ensures

@@ -22,22 +22,22 @@ returns-then-not-fits c = unfound c.no_brief-then-not-fits.result c.args.tp.now 
 pub returns-then-b-eq0 : goal.returns-then-b-eq0
 returns-then-b-eq0 c =
     let a = c.args in
-    brief_as a.tp.now a.at _ c.if-tp-at-lt7.false (sym c.read_at.ensures ∙ c.in-Whole.is) c.if-tp-at.false (fits_of_lem _ _ _ c.fits.ensures (c.if-not-fits.false)) c.llep_of.result false (zero_ends _ c.if-b-eq0.true) c.llep_of.ensures
+    brief_as a.tp.now a.at _ c.if-tp-at-lt7.false (sym c.read_at.ensures ∙ c.in-Some.is) c.if-tp-at.false (fits_of_lem _ _ _ c.fits.ensures (c.if-not-fits.false)) c.llep_of.result false (zero_ends _ c.if-b-eq0.true) c.llep_of.ensures
 
 pub returns-then-b : goal.returns-then-b
 returns-then-b c =
     let a = c.args in
-    brief_as a.tp.now a.at _ c.if-tp-at-lt7.false (sym c.read_at.ensures ∙ c.in-Whole.is) c.if-tp-at.false (fits_of_lem _ _ _ c.fits.ensures (c.if-not-fits.false)) c.llep_of-then-b.result true (full_goes_on _ c.if-b.true) c.llep_of-then-b.ensures
+    brief_as a.tp.now a.at _ c.if-tp-at-lt7.false (sym c.read_at.ensures ∙ c.in-Some.is) c.if-tp-at.false (fits_of_lem _ _ _ c.fits.ensures (c.if-not-fits.false)) c.llep_of-then-b.result true (full_goes_on _ c.if-b.true) c.llep_of-then-b.ensures
 
 pub returns-in-Zeros : goal.returns-in-Zeros
 returns-in-Zeros c =
     let a = c.args in
-    brief_as a.tp.now a.at _ c.if-tp-at-lt7.false (sym c.read_at.ensures ∙ c.in-Whole.is) c.if-tp-at.false (fits_of_lem _ _ _ c.fits.ensures (c.if-not-fits.false)) c.llep_of-in-Zeros.result false (sym (is_end _ _ c.end_of.ensures) ∙ c.in-Zeros.is) c.llep_of-in-Zeros.ensures
+    brief_as a.tp.now a.at _ c.if-tp-at-lt7.false (sym c.read_at.ensures ∙ c.in-Some.is) c.if-tp-at.false (fits_of_lem _ _ _ c.fits.ensures (c.if-not-fits.false)) c.llep_of-in-Zeros.result false (sym (is_end _ _ c.end_of.ensures) ∙ c.in-Zeros.is) c.llep_of-in-Zeros.ensures
 
 pub returns-in-Ones : goal.returns-in-Ones
 returns-in-Ones c =
     let a = c.args in
-    brief_as a.tp.now a.at _ c.if-tp-at-lt7.false (sym c.read_at.ensures ∙ c.in-Whole.is) c.if-tp-at.false (fits_of_lem _ _ _ c.fits.ensures (c.if-not-fits.false)) c.llep_of-in-Ones.result true (sym (is_end _ _ c.end_of.ensures) ∙ c.in-Ones.is) c.llep_of-in-Ones.ensures
+    brief_as a.tp.now a.at _ c.if-tp-at-lt7.false (sym c.read_at.ensures ∙ c.in-Some.is) c.if-tp-at.false (fits_of_lem _ _ _ c.fits.ensures (c.if-not-fits.false)) c.llep_of-in-Ones.result true (sym (is_end _ _ c.end_of.ensures) ∙ c.in-Ones.is) c.llep_of-in-Ones.ensures
 
 pub returns-in-Neither : goal.returns-in-Neither
 returns-in-Neither c = unfound c.no_brief-in-Neither.result c.args.tp.now c.args.at c.no_brief-in-Neither.ensures

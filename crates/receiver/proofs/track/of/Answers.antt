@@ -17,16 +17,16 @@ pub unkept-requires : goal.unkept-requires
 unkept-requires c =
     subst (λ (g : Stage). Staged g c.args.r.walk) c.in-Fresh.is c.requires.0.stage
 
-pub returns-in-Empty : goal.returns-in-Empty
-returns-in-Empty c =
+pub returns-in-None : goal.returns-in-None
+returns-in-None c =
     let r = c.args.r in
-    tracks_unkept c.unkept.result r _ c.in-Fresh.is (walk_is r.walk _ c.if-w-ne0.false c.in-Empty.is) c.unkept.ensures
+    tracks_unkept c.unkept.result r _ c.in-Fresh.is (walk_is r.walk _ c.if-w-ne0.false c.in-None.is) c.unkept.ensures
 
-pub returns-in-Of : goal.returns-in-Of
-returns-in-Of c =
+pub returns-in-Some : goal.returns-in-Some
+returns-in-Some c =
     let r = c.args.r in
     let w = c.args.r.walk in
     let fresh = c.in-Fresh.is in
-    let k = c.in-Of.is in
+    let k = c.in-Some.is in
     tracks_kept c.kept_of.result r w.phase w.began _ _ _ _ fresh (walk_is w _ c.if-w-ne0.false k) (subst (λ (g : Stage). Staged g w) fresh c.requires.0.stage)
     (subst (Fine r.limit w.phase) k c.requires.0.walk.phase) (subst (OwnIn w.began w.phase) k c.requires.1) c.kept_of.ensures

@@ -24,9 +24,3 @@ returns-in-Judged c =
     let a = c.args in
     let e = c.plain-in-Judged.ensures in
     track_none c.plain-in-Judged.result a.phase a.began e.1 e.0
-
-pub returns-in-Body : goal.returns-in-Body
-returns-in-Body c =
-    let a = c.args in
-    let e = c.plain-in-Body.ensures in
-    track_none c.plain-in-Body.result a.phase a.began e.1 e.0

@@ -1,4 +1,4 @@
--- `receiver::walk::gather` meets its contract: the invariant: the bytes read, then those left, make the same number. The measure is what is left.
+-- `receiver::walk::gather` meets its contract: the invariant: the bytes read, then those left, make the same number.
 -- Assumes nothing.
 use mathlib.Core.Path.{refl, ◌≡◌}
 use Prim.Native.Nat.{suc, ◌+◌}
@@ -16,25 +16,13 @@ overflow_mul-w c =
     let h = small (a.have + l.i) l.w l.invariant.1 (omega arith) in
     omega arith
 
-pub overflow_add-at : goal.overflow_add-at
-overflow_add-at c = omega arith
-
-pub bounds-tp-at : goal.bounds-tp-at
-bounds-tp-at c = omega arith
-
-pub overflow_add-w : goal.overflow_add-w
-overflow_add-w c =
+pub overflow_add-w-in-loop-i : goal.overflow_add-w-in-loop-i
+overflow_add-w-in-loop-i c =
     let l = c.loop-i in
     let a = c.args in
     let y = c.type_inv.tp (a.at + l.i) in
     let h = small (a.have + l.i) l.w l.invariant.1 (omega arith) in
-    omega (arith, c.wide.ensures)
-
-pub overflow_add-i : goal.overflow_add-i
-overflow_add-i c = omega arith
-
-pub loop-i-smaller : goal.loop-i-smaller
-loop-i-smaller c = omega arith
+    omega arith
 
 pub loop-i-preserved : goal.loop-i-preserved
 loop-i-preserved c =
@@ -43,7 +31,7 @@ loop-i-preserved c =
     let y = c.type_inv.tp (a.at + l.i) in
     let h = small (a.have + l.i) l.w l.invariant.1 (omega arith) in
     let e : a.have + (l.i + 1) ≡ suc (a.have + l.i) = omega arith in
-    rw (c.wide.ensures, e) (omega arith, next_small (a.have + l.i) l.w _ l.invariant.1 (omega arith), gather_on a.tp.now a.at a.n l.w l.i _ (omega arith) (omega arith) l.invariant.2)
+    rw e (omega arith, next_small (a.have + l.i) l.w _ l.invariant.1 (omega arith), gather_on a.tp.now a.at a.n l.w l.i _ (omega arith) (omega arith) l.invariant.2)
 
 pub returns : goal.returns
 returns c =

@@ -4,7 +4,4 @@ use Rattle.receiver.proofs.Worded.{bare_fits}
 use Rattle.receiver.proofs.words.can_be_called.Goals as goal
 
 pub returns-then-is_bare : goal.returns-then-is_bare
-returns-then-is_bare c = sym (bare_fits _ (sym c.is_bare.ensures ∙ c.if-is_bare.true))
-
-pub returns : goal.returns
-returns c = c.is_fit.ensures
+returns-then-is_bare c = c.if-is_bare.true ∙ sym (bare_fits _ (sym c.is_bare.ensures ∙ c.if-is_bare.true))

@@ -1,8 +1,8 @@
 use native.Mathlib.Omega.{arith}
 use Rattle.receiver.proofs.words.kept_words.Goals as goal
 
-pub returns-in-Empty : goal.returns-in-Empty
-returns-in-Empty c = (simp c.in-Empty.is, simp c.in-Empty.is (omega arith))
+pub returns-in-None : goal.returns-in-None
+returns-in-None c = (simp c.in-None.is, simp c.in-None.is (omega arith))
 
-pub returns-in-Of : goal.returns-in-Of
-returns-in-Of c = (simp (c.in-Of.is, c.wide.ensures.0), simp c.in-Of.is c.wide.ensures.1)
+pub returns-in-Some : goal.returns-in-Some
+returns-in-Some c = (simp (c.in-Some.is, c.wide.ensures.0), simp c.in-Some.is c.wide.ensures.1)

@@ -3,18 +3,18 @@
 use Rattle.receiver.proofs.Serially.{at_once, in_series, still_fit}
 use Rattle.receiver.proofs.words.next.Goals as goal
 
-pub next-requires-in-Other : goal.next-requires-in-Other
-next-requires-in-Other c =
+pub next-requires-in-None : goal.next-requires-in-None
+next-requires-in-None c =
     let a = c.args in
-    still_fit a.w.now a.tp.now a.room.now c.requires _ _ _ c.next.ensures c.in-Other.is
+    still_fit a.w.now a.tp.now a.room.now c.requires _ _ _ c.next.ensures c.in-None.is
 
-pub returns-in-Gives : goal.returns-in-Gives
-returns-in-Gives c =
+pub returns-in-Some : goal.returns-in-Some
+returns-in-Some c =
     let a = c.args in
-    at_once a.w.now a.tp.now a.room.now c.requires _ _ _ c.next.ensures _ _ c.in-Gives.is
+    at_once a.w.now a.tp.now a.room.now c.requires _ _ _ c.next.ensures _ c.in-Some.is
 
-pub returns-in-Other : goal.returns-in-Other
-returns-in-Other c =
+pub returns-in-None : goal.returns-in-None
+returns-in-None c =
     let a = c.args in
-    let n = c.next-in-Other in
-    in_series a.w.now a.tp.now a.room.now c.requires _ _ _ c.next.ensures c.in-Other.is n.result n.new.w n.new.room n.ensures
+    let n = c.next-in-None in
+    in_series a.w.now a.tp.now a.room.now c.requires _ _ _ c.next.ensures c.in-None.is n.result n.new.w n.new.room n.ensures

@@ -29,10 +29,12 @@ pub returns-in-Known : goal.returns-in-Known
 unfolding says
 returns-in-Known c = ap says (sym c.in-Known.is ∙ c.sort_of.ensures) ∙ sorted c.args.content
 
-pub returns-in-Fill : goal.returns-in-Fill
+not_known : (s : Sort) → (s ≡ Known → ⊥) → false ≡ says s
 unfolding says
-returns-in-Fill c = ap says (sym c.in-Fill.is ∙ c.sort_of.ensures) ∙ sorted c.args.content
+not_known Fill n = refl
+not_known Known n = absurd (n refl)
+not_known Reserved n = refl
 
-pub returns-in-Reserved : goal.returns-in-Reserved
+pub returns-in_default : goal.returns-in_default
 unfolding says
-returns-in-Reserved c = ap says (sym c.in-Reserved.is ∙ c.sort_of.ensures) ∙ sorted c.args.content
+returns-in_default c = not_known (sort_of c.args.content) (λ e. c.in_default.not-Known (c.sort_of.ensures ∙ e)) ∙ sorted c.args.content

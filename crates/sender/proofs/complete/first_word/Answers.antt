@@ -1,5 +1,6 @@
 -- `complete::first_word` meets its contract: each entry is a code word, by computing it. Assumes nothing.
 use mathlib.Core.Path.{refl}
+use native.Mathlib.Omega.{arith}
 use Rattle.golay.specs.Golay.{chosen, code_word}
 use Rattle.sender.specs.Offering.{known}
 use Rattle.sender.specs.Steps.{first_word}
@@ -32,4 +33,4 @@ returns-in-6 c = entry c.args.content 6 _ c.in-6.is refl
 
 pub returns-in_default : goal.returns-in_default
 unfolding first_word known code_word chosen
-returns-in_default c = no_entry c.args.content c.in_default.in_default-own.rest.0.0.0.0.0.1 c.in_default.in_default-own.rest.0.0.0.0.1 c.in_default.in_default-own.rest.0.0.0.1 c.in_default.in_default-own.rest.0.0.1 c.in_default.in_default-own.rest.0.1 c.in_default.in_default-own.rest.1
+returns-in_default c = no_entry c.args.content (λ p. omega arith)

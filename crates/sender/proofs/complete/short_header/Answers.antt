@@ -9,4 +9,4 @@ use Rattle.sender.proofs.complete.short_header.Goals as goal
 
 pub returns : goal.returns
 returns c =
-    rw (c.three_of-b.ensures, c.encode.ensures) (ap (λ (l : List ℕ). l ++ digits 3 (code_word c.args.size)) c.first_bytes-a.ensures ∙ short_is c.args.content c.args.size c.requires.0 c.requires.1)
+    rw (c.digits_of-b.ensures, c.encode.ensures) (ap (λ (l : List ℕ). l ++ digits 3 (code_word c.args.size)) c.first_bytes-a.ensures ∙ short_is c.args.content c.args.size c.requires.0 c.requires.1)

@@ -12,4 +12,4 @@ overflow_add-result c =
 pub returns : goal.returns
 returns c =
     let a = c.args in
-    owned a.buf.now a.q _ a.owed a.tp.now _ _ _ a.at _ _ _ c.requires.kept c.requires.at_in_bounds.0 c.least-k.ensures c.fill_at.ensures c.least-n.ensures c.pop_into-t.ensures c.fill_part-more.ensures.dst_after c.fill_part-more.ensures.value
+    owned a.buf.now a.q _ a.owed a.tp.now _ _ _ a.at _ _ _ c.requires.kept c.requires.at_in_bounds.0 c.min-k.ensures c.fill_at.ensures c.min-n.ensures c.pop_into-t.ensures c.fill_part-more.ensures.dst_after c.fill_part-more.ensures.value

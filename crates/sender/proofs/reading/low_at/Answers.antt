@@ -1,9 +1,10 @@
 -- `reading::low_at` meets its contract: fewer than six bytes, or by the header's two words. Assumes nothing.
-use mathlib.Core.Path.{refl, ◌∙◌}
+use mathlib.Core.Path.{refl, ap, ◌∙◌}
 use native.Mathlib.Omega.{arith}
 use Rattle.queue.specs.Ring.{held}
 use Rattle.queue.proofs.Puts.{length_held}
 use Rattle.sender.specs.Drawing.{low_at}
+use Rattle.sender.specs.Steps.{found}
 use Rattle.sender.proofs.Heads.{low_few}
 use Rattle.sender.proofs.reading.low_at.Goals as goal
 
@@ -11,7 +12,7 @@ pub returns-then-q-lt6 : goal.returns-then-q-lt6
 returns-then-q-lt6 c =
     let a = c.args in
     let l = length_held a.buf.now a.q c.requires.kept in
-    low_few a.payload (held a.buf.now a.q) (omega arith)
+    ap found (low_few a.payload (held a.buf.now a.q) (omega arith))
 
 pub returns : goal.returns
 unfolding low_at

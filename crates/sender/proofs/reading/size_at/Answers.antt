@@ -23,7 +23,7 @@ returns c =
     let a = c.args in
     let b = c.args.buf.now in
     let at : ℕ = c.place_of-at.result in
-    let byte = c.shared_slice_known-5-1.given in
+    let byte = c.type_inv.buf in
     let x = c.from_four-x.ensures in
     let e = size_four (get_or b at 0) (get_or b (at + 1) 0) (get_or b (at + 2) 0) (get_or b (at + 3) 0) (get_or b (at + 4) 0) (get_or b (at + 5) 0) _ (omega (arith, byte (at + 1))) (omega (arith, byte (at + 2))) (omega (arith, byte (at + 3))) (omega (arith, byte (at + 4))) (omega (arith, byte (at + 5))) x in
     (e ∙ ap size_in (head_run b a.q a.i at c.requires.kept c.requires.i_bound c.place_of-at.ensures (omega (arith, c.if-buf-at-lt6.false))), omega (arith, x, byte (at + 1), byte (at + 2), byte (at + 3), byte (at + 4)))

@@ -22,4 +22,4 @@ returns c =
     let a = c.args in
     let q = held a.buf.now a.q in
     let l : length (drop a.at q) ≡ a.q.len - a.at = length-drop a.at q ∙ ap (λ (z : ℕ). z - a.at) (length_held a.buf.now a.q c.requires.kept) in
-    rw (c.least.ensures, l, c.size_at.ensures.0)
+    rw (c.min.ensures, l, c.size_at.ensures.0)

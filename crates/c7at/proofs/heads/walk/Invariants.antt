@@ -1,9 +1,0 @@
--- `c7at::heads::walk` is safe and ends: it counts down.
--- Assumes nothing.
-use Rattle.c7at.proofs.heads.walk.Given as goal
-
-abbrev pub invariant-loop-left : goal.invariant-loop-left
-invariant-loop-left l = Unit {0}
-
-abbrev pub decreases-loop-left : goal.decreases-loop-left
-decreases-loop-left l = l.left

@@ -1,7 +1,0 @@
--- `files::write_at` is safe and ends: each turn writes something.
--- Assumes nothing.
-use native.Mathlib.Omega.{arith}
-use Rattle.files.proofs.write_at.Goals as goal
-
-pub loop-done-init : goal.loop-done-init
-loop-done-init c = omega arith

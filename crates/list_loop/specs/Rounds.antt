@@ -1,0 +1,47 @@
+-- FROM ROUND TO ROUND of the loop over input blocks: before the records of a block and behind them, what the theorem on the whole listing asks
+-- for, and what a call needs. Assumes nothing.
+use Rattle.std.specs.Prelude.{ℕ, ◌+◌, ◌≤◌, ◌≡◌, List, ◌++◌, length}
+use Rattle.listing.specs.Tens.{Kept}
+use Rattle.receiver.specs.State.{Able}
+use Rattle.receiver.specs.Tp.{Setting}
+use Rattle.receiver.specs.Tracks.{Placed}
+use Rattle.list_loop.specs.Whole.{setting_of, Begins, Goes}
+use Rattle.list_loop.specs.declared.Lister.{Lister}
+use Rattle.list_loop.specs.declared.Run.{Run}
+
+-- what the loop holds of its own
+pub record Callable (p : Lister) : Type 0 where
+  pub able : Able p.run.receiver
+  pub placed : Placed p.run.receiver
+  pub ten : Kept p.run.ten
+  pub room : 61520 ≤ length p.out
+
+-- before these bytes: the loop begins, or goes on behind another block
+pub data Comes (unread : List ℕ) (run : Run) (m out : List ℕ) : Type 0 where
+  begins : {s : Setting} → Begins s run m out → Comes unread run m out
+  goes : {s : Setting} {input left held : List ℕ} {b : Run} → Goes s input left held b m → (more : List ℕ) → unread ≡ left ++ more
+      → run ≡ record { receiver = b.receiver; done = b.done; ten = b.ten; at = 0; from = run.from } → Comes unread run m out
+
+-- behind the records taken, with these bytes left
+pub record Went (unread : List ℕ) (r : Run) (m : List ℕ) : Type 0 where
+  pub setting : Setting
+  pub input : List ℕ
+  pub held : List ℕ
+  pub goes_so : Goes setting input unread held r m
+
+-- no more TPs are done than the input so far has bytes, of which n more may be read
+pub record Before (p : Lister) (n : ℕ) (unread : List ℕ) : Type 0 where
+  pub ready : Callable p
+  pub size : length unread ≤ 131072
+  pub count : p.run.done + length unread + n ≤ 9223372036854775808
+  pub comes : Comes unread p.run p.room p.out
+
+pub record Behind (p : Lister) (n : ℕ) (unread : List ℕ) : Type 0 where
+  pub ready : Callable p
+  pub count : p.run.done + length unread + n ≤ 9223372036854775808
+  pub went : Went unread p.run p.room
+
+-- what is opened begins
+pub record Opened (p : Lister) : Type 0 where
+  pub ready : Callable p
+  pub begins : Begins (setting_of p.run.receiver) p.run p.room p.out

@@ -1,0 +1,7 @@
+-- `Unpacking::finds` keeps a receiver that can be called.
+-- Assumes nothing.
+use Rattle.receiver.specs.State.{Able}
+use Rattle.unpack_loop.proofs.Unpacking.finds.Given as goal
+
+abbrev pub invariant-loop : goal.invariant-loop
+invariant-loop l = Able l.self.receiver
