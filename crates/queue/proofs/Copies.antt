@@ -9,7 +9,7 @@ use lib.Dec.{leb}
 use borrow.Author.Tests.{leb-true, leb-false}
 use mathlib.Core.List.{List, [], ◌∷◌, ◌++◌, append_assoc, append-nil}
 use lib.ListN.{length, take, drop, length-append, length-drop, take-append-drop}
-use lib.Seq.{paste, paste-zero, take_all, take-length, take-append-add, drop-append-add, drop-drop, length-take-le, drop-nil, take-nil, length-paste, take_at, drop_at, drop-length}
+use lib.Seq.{paste, paste-zero, take_all, take-length, take-append-add, drop-append-add, take-take, drop-drop, length-take-le, drop-nil, take-nil, length-paste, take_at, drop_at, drop-length}
 use Rattle.queue.specs.Ring.{copied}
 
 pub drop_take : (n m : ℕ) (l : List ℕ) → drop n (take (n + m) l) ≡ take m (drop n l)
@@ -36,6 +36,26 @@ paste_two r s₁ s₂ l p =
 -- a list as its first k elements and the others, as code takes them
 pub parts : (s : List ℕ) (k : ℕ) → take k s ++ take (length s - k) (drop k s) ≡ s
 parts s k = rw (take_all (length s - k) (drop k s) (omega (arith, length-drop k s))) (take-append-drop k s)
+
+-- a paste of a list's first elements
+pub paste_part : (d s : List ℕ) (at k : ℕ) → k ≤ length s → paste d at s k ≡ paste d at (take k s) (length (take k s))
+paste_part d s at k p = rw (length-take-le k s p, take-take k k s (omega arith))
+
+-- a paste by way of another list's first elements
+pub paste_by : (d o s o' d' : List ℕ) (at n : ℕ) → n ≤ length s → o' ≡ paste o 0 s n → d' ≡ paste d at o' n → d' ≡ paste d at s n
+paste_by d o s o' d' at n p e f =
+    let same : take n o' ≡ take n s = ap (take n) e ∙ take_at (take n s) (drop (0 + n) o) n (length-take-le n s p) in
+    f ∙ ap (λ (x : List ℕ). take at d ++ x ++ drop (at + n) d) same
+
+-- a whole list pasted over, in one run and in two
+pub over : (d s d' : List ℕ) → length s ≡ length d → d' ≡ paste d 0 s (length s) → d' ≡ s
+over d s d' e f = f ∙ rw (take-length, zero-add, e, drop-length) (append-nil s)
+
+pub over_two : (d s₁ s₂ d₁ d₂ : List ℕ) (k : ℕ) → length s₁ ≡ k → length s₁ + length s₂ ≡ length d
+    → d₁ ≡ paste d 0 s₁ (length s₁) → d₂ ≡ paste d₁ k s₂ (length s₂) → d₂ ≡ s₁ ++ s₂
+over_two d s₁ s₂ d₁ d₂ k e m f₁ f₂ =
+    let f : k ≡ 0 + length s₁ = omega arith in
+    over d (s₁ ++ s₂) d₂ (length-append s₁ s₂ ∙ m) (f₂ ∙ rw (f, f₁) (paste_two d s₁ s₂ 0 (omega arith)))
 
 -- a list in two parts, once x and y are written to them
 abbrev pub two_parts : List ℕ → List ℕ → List ℕ → ℕ → List ℕ

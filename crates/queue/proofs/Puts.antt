@@ -6,12 +6,12 @@ use Prim.Native.Nat.{ℕ, ◌+◌, ◌-◌, ◌≤◌, ◌<◌}
 use native.Mathlib.Nat.{add_assoc, add-zero}
 use native.Mathlib.Omega.{arith}
 use lib.Dec.{leb}
-use lib.ListN.{length, length-append}
+use lib.ListN.{length, take, drop, length-append, length-drop}
 use lib.Seq.{paste, paste-zero, take-length, take-paste, length-take-le, length-paste}
 use borrow.Author.Tests.{le-leb, lt-leb, leb-true}
 use Rattle.queue.specs.declared.Ring.{Ring}
 use Rattle.queue.specs.Ring.{Left, around, held, Kept, kept, longer, written, room, pushed}
-use Rattle.queue.proofs.Copies.{paste_two}
+use Rattle.queue.proofs.Copies.{paste_two, parts}
 use Rattle.queue.proofs.Runs.{length_around, length_around_all, undo, write_run}
 
 pub and_left : (a b : Bool) → a && b ≡ true → a ≡ true
@@ -98,6 +98,15 @@ written_two b s t q w p =
     let wl = w.len in
     let l = length_around b q.head w.head in
     again b s t (written b q s) q (written_around b s q w (omega arith)) (length_written b s q w (omega arith)) (omega arith)
+
+-- six bytes in two runs
+pub write_six : (b h b₁ b₂ : List ℕ) (at : ℕ) → length h ≡ 6 → at ≤ length b → b₁ ≡ paste b at (take 4 h) 4 → b₂ ≡ paste b₁ (at + 4) (take 2 (drop 4 h)) 2
+    → b₂ ≡ paste b at h 6
+write_six b h b₁ b₂ at l p e₁ e₂ =
+    let u : length (take 4 h) ≡ 4 = length-take-le 4 h (omega arith) in
+    let v : length (take 2 (drop 4 h)) ≡ 2 = length-take-le 2 (drop 4 h) (omega (arith, length-drop 4 h)) in
+    let s : take 4 h ++ take 2 (drop 4 h) ≡ h = rw l at (parts h 4) in
+    e₂ ∙ rw e₁ (rw (u, v, s, l) at (paste_two b (take 4 h) (take 2 (drop 4 h)) at p))
 
 -- six bytes and then t: by one write after the other, and in one stride before the buffer's end
 module _ (b h t : List ℕ) (q : Ring) (w : Kept b q) (l : length h ≡ 6) where

@@ -98,6 +98,12 @@ undo b h p =
 
 -- the index of place i: past the buffer's end, or before it
 module _ (cap head i : ℕ) (p : head ≤ cap) where
+  pub place_past : cap - head ≤ i → i - (cap - head) ≡ cond (leb cap (head + i)) (head + i - cap) (head + i)
+  place_past h = let e : i - (cap - head) ≡ head + i - cap = omega arith in e ∙ rw (le-leb cap (head + i) (omega arith)) refl
+
+  pub place_before : i < cap - head → head + i ≡ cond (leb cap (head + i)) (head + i - cap) (head + i)
+  place_before h = rw (lt-leb cap (head + i) (omega arith)) refl
+
   module _ (at : ℕ) (a : at ≡ cond (leb cap (head + i)) (head + i - cap) (head + i)) where
     pub placed : (cap + at ≡ head + i) ⊎ ((at ≡ head + i) × (at < cap))
     placed =
