@@ -1,5 +1,5 @@
 -- What is put in two goes is put in one: so a line is put piece by piece. Assumes nothing.
-use Prim.Native.Nat.{ℕ, ◌+◌, ◌-◌, ◌≤◌, ◌<◌}
+use Prim.Native.Nat.{ℕ, ◌+◌, ◌-◌, ◌≤◌, ◌<◌, min}
 use mathlib.Core.Path.{◌≡◌, refl, ap, ap₂, sym, ◌∙◌}
 use mathlib.Core.Bool.{Bool, true, false, cond}
 use mathlib.Core.List.{List, [], ◌++◌, append_assoc, append-nil}
@@ -8,7 +8,7 @@ use borrow.Author.Tests.{le-leb, lt-leb}
 use borrow.Rule.Slice.PartMut.{put_mid, Post-is}
 use lib.Dec.{leb}
 use lib.ListN.{length, take, drop, length-append, length-drop, take-append-drop}
-use lib.Seq.{length-take-le, take_at, drop-drop, drop-append-add, take-append-le, take-append-add}
+use lib.Seq.{paste, take-length, length-take-le, take_at, drop-drop, drop-append-add, take-append-le, take-append-add}
 use Rattle.block.specs.Block.{Block, placed, put}
 
 pub fits : (d : List ℕ) (n : ℕ) (s : List ℕ) → n + length s ≤ length d → put d n s ≡ record { bytes = placed d n s; at = n + length s }
@@ -18,6 +18,12 @@ fits d n s h = rw (le-leb _ _ h)
 pub misfits : (d : List ℕ) (n : ℕ) (s : List ℕ) → length d < n + length s → put d n s ≡ record { bytes = d; at = n }
 unfolding put
 misfits d n s h = rw (lt-leb _ _ h)
+
+-- a copy for which there is place, as `queue::copy_at` makes it (`queue.Ring.copied`), is what is put
+pub copies : (d : List ℕ) (n : ℕ) (s : List ℕ) → n + length s ≤ length d → paste d n s (min (length s) (length d - n)) ≡ placed d n s
+copies d n s h =
+    let e : min (length s) (length d - n) ≡ length s = omega arith in
+    rw (e, take-length)
 
 -- a part that is as long as s, and becomes s
 pub in_part : (d s b : List ℕ) (n : ℕ) → n + length s ≤ length d → b ≡ s → put_mid n (n + length s - n) d b ≡ placed d n s

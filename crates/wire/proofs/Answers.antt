@@ -1,6 +1,6 @@
 -- What the decoder's answers make of a header's words.
 -- Assumes nothing.
-use mathlib.Core.Path.{◌≡◌, refl, sym, ap}
+use mathlib.Core.Path.{◌≡◌, refl, sym, ap, ◌∙◌}
 use mathlib.Core.Bool.{Bool, true, false, cond, ◌&&◌}
 use lib.Dec.{eqb}
 use borrow.Author.Tests.{eqb-true}
@@ -87,3 +87,22 @@ intact-is w h e = by (eqb (syndrome a) 0) (eqb (syndrome b) 0) refl refl e
     by true true p q f = rw (read a p, read b q) f
     by true false p q f = let z : ◌≡◌ {A = ℕ} 0 1 = ap told f in absurd (omega arith)
     by false y p q f = let z : ◌≡◌ {A = ℕ} 0 1 = ap told f in absurd (omega arith)
+
+-- what `wire::read_intact` answers, by its two tests
+module _ (w : ℕ) where
+  pub both-intact : (h : Header) → eqb (syndrome (w / 2 ^ 24 % 2 ^ 24)) 0 ≡ true → eqb (syndrome (w % 2 ^ 24)) 0 ≡ true
+      → h ≡ fields_of (high (w / 2 ^ 24 % 2 ^ 24)) (high (w % 2 ^ 24)) 0 → Some h ≡ intact_in w
+  unfolding intact_in
+  both-intact h e f is = rw (e, f, is)
+
+  pub second-flipped : eqb (syndrome (w / 2 ^ 24 % 2 ^ 24)) 0 ≡ true → eqb (syndrome (w % 2 ^ 24)) 0 ≡ false → None ≡ intact_in w
+  unfolding intact_in
+  second-flipped e f = rw (e, f)
+
+  pub first-flipped : eqb (syndrome (w / 2 ^ 24 % 2 ^ 24)) 0 ≡ false → None ≡ intact_in w
+  unfolding intact_in
+  first-flipped e = rw e
+
+-- an answer of two intact words is the header that they hold, of which no bit was flipped
+pub read-intact-is : (w : ℕ) (r : Option Header) (h : Header) → r ≡ intact_in w → r ≡ Some h → header_in w ≡ Some h
+read-intact-is w r h a b = intact-is w h (sym a ∙ b)
