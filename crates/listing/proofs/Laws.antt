@@ -1,18 +1,27 @@
 -- A line put piece by piece into a block with room for it is the line; and where the block was a text of its own, its start is
 -- the line. A find that goes on makes the block hold more. Assumes nothing.
-use Rattle.std.proofs.Common.{◌≡◌, ℕ, ◌+◌, ◌-◌, ◌<◌, ◌≤◌, Bool, true, cond, List, [], ◌∷◌, ◌++◌, length, take, drop, sym, refl, ap, ◌∙◌, subst, ap₂, append_assoc, arith, length-append}
+use Rattle.std.proofs.Common.{◌≡◌, ℕ, ◌+◌, ◌-◌, ◌%◌, ◌<◌, ◌≤◌, Bool, true, false, cond, leb, List, [], ◌∷◌, ◌++◌, length, take, drop, sym, refl, ap, ◌∙◌, subst, ap₂, append_assoc, arith, length-append, le-leb, leb-false, leb-true}
+use borrow.Author.Tests.{lt-leb}
 use lib.Seq.{take-append_seam}
 use Rattle.block.specs.Block.{Block, placed, put}
 use Rattle.block.specs.Decimal.{decimal}
 use Rattle.block.proofs.Laws.{fits, held_placed, length_placed, then, room, block_of}
 use Rattle.block.proofs.Decimals.{decimal_most}
+use Rattle.block.proofs.Straight.{one_digit}
 use Rattle.receiver.specs.declared.Find.{Find}
 use Rattle.receiver.specs.declared.Find.TheVariants.{Nothing, Refused, Notice, Low, Ordinary}
 use Rattle.listing.specs.Lines.{low_word, ordinary_word, notice_word, line_with, line_of, behind, rest_of}
 use Rattle.receiver.specs.Call.{lasts}
 use Rattle.listing.specs.Tens.{Begun}
 
--- ---- the block after a put that had room
+-- ---- a block's room, and the block after a put that had it
+
+pub shifted : (at size : ℕ) → at ≤ size → leb 80 (size - at) ≡ leb (at + 80) size
+shifted at size h = go (leb (at + 80) size) refl
+  where
+    go : (t : Bool) → leb (at + 80) size ≡ t → leb 80 (size - at) ≡ t
+    go true e = let fit = leb-true (at + 80) size e in le-leb 80 (size - at) (omega arith)
+    go false e = let none = leb-false (at + 80) size e in lt-leb 80 (size - at) (omega arith)
 
 module _ (d y s : List ℕ) (n r : ℕ) (h : n + length s ≤ length d) (e : block_of y r ≡ put d n s) where
   put_whole : block_of y r ≡ block_of (placed d n s) (n + length s)
@@ -56,12 +65,38 @@ module _ (w : List ℕ) (d : List ℕ) (at : ℕ) (short : length w ≤ 10) (h :
   pub worded : (c n : ℕ) (z : List ℕ) (q : ℕ) → block_of z q ≡ put y r (tail c n) → block_of z q ≡ put d at (behind w c n)
   worded c n z q f = then d y z w (tail c n) at r q (omega (arith, tail_most c n)) e f
 
+-- a word with a content of one digit, then the bytes
+module _ (w : List ℕ) (d : List ℕ) (at c : ℕ) (short : length w ≤ 10) (h : at + 52 ≤ length d) (few : c ≤ 9) where
+  abbrev once : List ℕ
+  once = w ++ (48 + c) ∷ 32 ∷ []
+
+  digit : (48 + c) ∷ [] ≡ decimal c
+  digit = let same : 48 + c ≡ 48 + c % 10 = omega arith in ap (λ (v : ℕ). v ∷ []) same ∙ sym (one_digit c (omega arith))
+
+  once_long : length once ≡ length w + 2
+  once_long = length-append w ((48 + c) ∷ 32 ∷ [])
+
+  module _ (y₁ : List ℕ) (r₁ : ℕ) (e₁ : block_of y₁ r₁ ≡ put d at once) where
+    pub once_room : r₁ + 40 ≤ length y₁
+    once_room = room d y₁ once at r₁ 40 e₁ (omega (arith, once_long))
+
+    pub at_once : (n : ℕ) (y₂ y₃ : List ℕ) (r₂ r₃ : ℕ) → block_of y₂ r₂ ≡ put y₁ r₁ (decimal n) → block_of y₃ r₃ ≡ put y₂ r₂ (10 ∷ [])
+        → block_of y₃ r₃ ≡ put d at (behind w c n)
+    at_once n y₂ y₃ r₂ r₃ e₂ e₃ =
+        let f = decimal_most n in
+        let e₁₂ = then d y₁ y₂ once (decimal n) at r₁ r₂ (omega (arith, once_long, f)) e₁ e₂ in
+        then d y₂ y₃ (once ++ decimal n) (10 ∷ []) at r₂ r₃ (omega (arith, once_long, f, length-append once (decimal n))) e₁₂ e₃
+        ∙ ap (put d at)
+        (append_assoc once (decimal n) (10 ∷ [])
+        ∙ append_assoc w ((48 + c) ∷ 32 ∷ []) (decimal n ++ (10 ∷ []))
+        ∙ ap (λ (s : List ℕ). w ++ (s ++ (32 ∷ []) ++ decimal n ++ (10 ∷ []))) digit)
+
 -- ---- the line of a find: a TP's number, and the rest
 
 behind_most : (w : List ℕ) (c n : ℕ) → length w ≤ 10 → length (behind w c n) ≤ 52
 behind_most w c n short = omega (arith, length-append w (tail c n), tail_most c n)
 
-behind_some : (w : List ℕ) (c n : ℕ) → 5 ≤ length w → 7 ≤ length (behind w c n)
+pub behind_some : (w : List ℕ) (c n : ℕ) → 5 ≤ length w → 7 ≤ length (behind w c n)
 behind_some w c n some = omega (arith, length-append w (tail c n), length-append (decimal c ++ (32 ∷ []) ++ decimal n) (10 ∷ []), length-append (decimal c ++ (32 ∷ [])) (decimal n), length-append (decimal c) (32 ∷ []))
 
 with_word : (t : ℕ) (w : List ℕ) (c n : ℕ) → decimal t ++ behind w c n ≡ line_with t w c n

@@ -1,6 +1,6 @@
 -- A number is spelled by its ten: the digits that are kept and its own last one, whatever is then put over the bytes behind. The
 -- ten of a number that was put. Assumes nothing.
-use Rattle.std.proofs.Common.{◌≡◌, ℕ, ◌+◌, ◌-◌, ◌/◌, ◌%◌, ◌<◌, ◌≤◌, Bool, true, false, cond, eqb, leb, List, [], ◌∷◌, ◌++◌, length, get_or, take, drop, set, sym, refl, ap, ◌∙◌, ap₂, append_assoc, arith, length-append, length-drop, length-set, length-take-le, get_or-drop, take-take, take_at, drop_at, eq-eqb, ne_eqb, leb-false, leb-true}
+use Rattle.std.proofs.Common.{◌≡◌, ℕ, suc, ◌+◌, ◌-◌, ◌/◌, ◌%◌, ◌<◌, ◌≤◌, Bool, true, false, cond, eqb, leb, List, [], ◌∷◌, ◌++◌, length, get_or, take, drop, set, sym, refl, ap, ◌∙◌, ap₂, append_assoc, arith, length-append, length-drop, length-set, length-take-le, get_or-drop, drop-cons, take-take, take_at, drop_at, eq-eqb, ne_eqb, leb-false, leb-true}
 use lib.Seq.{get_or-append_seam}
 use Rattle.block.specs.Block.{placed, put}
 use Rattle.block.specs.Decimal.{decimal}
@@ -10,6 +10,25 @@ use Rattle.block.proofs.Straight.{one_set, one_digit, last_digit, at_most_eight}
 use Rattle.listing.specs.declared.Ten.{Ten}
 use Rattle.listing.specs.Tens.{heads, Kept, Begun}
 use Rattle.listing.proofs.Laws.{put_held, put_long, put_bytes}
+
+-- ---- eight bytes, one by one
+
+one_by : (s : List ℕ) (i j m : ℕ) → i < length s → suc i ≡ j → take (suc m) (drop i s) ≡ get_or s i 0 ∷ take m (drop j s)
+one_by s i j m h e = ap (take (suc m)) (drop-cons s i 0 h) ∙ ap (λ (x : ℕ). get_or s i 0 ∷ take m (drop x s)) e
+
+pub eight_are : (s : List ℕ) (at : ℕ) → at + 8 ≤ length s
+    → get_or s at 0 ∷ get_or s (at + 1) 0 ∷ get_or s (at + 2) 0 ∷ get_or s (at + 3) 0 ∷ get_or s (at + 4) 0 ∷ get_or s (at + 5) 0 ∷ get_or s (at + 6) 0 ∷ get_or s (at + 7) 0 ∷ []
+    ≡ take 8 (drop at s)
+eight_are s at h =
+    sym
+    (one_by s at (at + 1) 7 (omega arith) (omega arith)
+    ∙ ap (λ (x : List ℕ). get_or s at 0 ∷ x) (one_by s (at + 1) (at + 2) 6 (omega arith) (omega arith)
+    ∙ ap (λ (x : List ℕ). get_or s (at + 1) 0 ∷ x) (one_by s (at + 2) (at + 3) 5 (omega arith) (omega arith)
+    ∙ ap (λ (x : List ℕ). get_or s (at + 2) 0 ∷ x) (one_by s (at + 3) (at + 4) 4 (omega arith) (omega arith)
+    ∙ ap (λ (x : List ℕ). get_or s (at + 3) 0 ∷ x) (one_by s (at + 4) (at + 5) 3 (omega arith) (omega arith)
+    ∙ ap (λ (x : List ℕ). get_or s (at + 4) 0 ∷ x) (one_by s (at + 5) (at + 6) 2 (omega arith) (omega arith)
+    ∙ ap (λ (x : List ℕ). get_or s (at + 5) 0 ∷ x) (one_by s (at + 6) (at + 7) 1 (omega arith) (omega arith)
+    ∙ ap (λ (x : List ℕ). get_or s (at + 6) 0 ∷ x) (one_by s (at + 7) (at + 8) 0 (omega arith) (omega arith)))))))))
 
 -- ---- a number's last digit, behind the others
 
