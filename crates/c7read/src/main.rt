@@ -60,9 +60,9 @@ impl Program for Reading {
 
     ghost PLACE = { Listing };
 
-    ghost Before = { λ reading _ _. Able reading.receiver };
+    ghost Before = { λ _ reading _ _. Able reading.receiver };
 
-    ghost Behind = { λ reading _ _. Able reading.receiver };
+    ghost Behind = { λ _ reading _ _. Able reading.receiver };
 
     fn take(&mut self, unread: &[u8]) -> Taken {
         let mut bytes = 0;

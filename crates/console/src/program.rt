@@ -27,25 +27,26 @@ pub trait Program {
 
     ghost PLACE: { Place };
 
-    // What holds before these bytes are taken, if so many more may be read behind them.
-    ghost Before: { Self → ℕ → List ℕ → Type 0 };
+    // What holds of the program that the loop began with, and of this one, before these bytes are taken, if so many more may be read
+    // behind them.
+    ghost Before: { Self → Self → ℕ → List ℕ → Type 0 };
 
-    // What holds behind the records taken, before what is left of the bytes.
-    ghost Behind: { Self → ℕ → List ℕ → Type 0 };
+    // What holds of both behind the records taken, before what is left of the bytes.
+    ghost Behind: { Self → Self → ℕ → List ℕ → Type 0 };
 
     // Takes whole records from the start of what is unread, while there is room for what they become, up to the first that is refused.
     fn take(&mut self, unread: &[u8]) -> Taken
-        requires { (n : ℕ) × Before self.old n unread.now }
+        requires { (begun : Self) × ((n : ℕ) × Before begun self.old n unread.now) }
         ensures whole { Whole PLACE unread.now result.bytes }
         ensures begins { IfSome result.refused (λ r. r.begin ≤ length unread.now) }
-        ensures behind { (n : ℕ) → Before self.old n unread.now → Behind self.new n (drop result.bytes unread.now) };
+        ensures behind { (begun : Self) (n : ℕ) → Before begun self.old n unread.now → Behind begun self.new n (drop result.bytes unread.now) };
 
     // What is to be written out.
     fn held(&self) -> &[u8];
 
     // It is written, and more may be read behind what is left.
     fn empty(&mut self)
-        ensures { (n m : ℕ) (rest more : List ℕ) → m + length more ≤ n → length rest + length more ≤ SIZE → Behind self.old n rest → Before self.new m (rest ++ more) };
+        ensures { (begun : Self) (n m : ℕ) (rest more : List ℕ) → m + length more ≤ n → length rest + length more ≤ SIZE → Behind begun self.old n rest → Before begun self.new m (rest ++ more) };
 }
 
 impl Console<'_> {
@@ -53,7 +54,7 @@ impl Console<'_> {
     pub fn run<P: Program>(self, program: &mut P, first: Unread, block: &mut [u8; SIZE])
         requires from { first.from ≤ first.till }
         requires till { first.till ≤ SIZE }
-        requires before { P.Before program.old (BLOCKS * SIZE) (stretch block.old first) }
+        requires before { P.Before program.old program.old (BLOCKS * SIZE) (stretch block.old first) }
     {
         let mut unread = first;
         for _ in 0..BLOCKS {

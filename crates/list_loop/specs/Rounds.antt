@@ -16,30 +16,30 @@ pub record Callable (p : Lister) : Type 0 where
   pub ten : Kept p.run.ten
   pub room : 61520 ≤ length p.out
 
--- before these bytes: the loop begins, or goes on behind another block
-pub data Comes (unread : List ℕ) (run : Run) (m out : List ℕ) : Type 0 where
-  begins : {s : Setting} → Begins s run m out → Comes unread run m out
-  goes : {s : Setting} {input left held : List ℕ} {b : Run} → Goes s input left held b m → (more : List ℕ) → unread ≡ left ++ more
-      → run ≡ record { receiver = b.receiver; done = b.done; ten = b.ten; at = 0; from = run.from } → Comes unread run m out
+-- before these bytes, with a receiver of these settings: the loop begins, or goes on behind another block
+pub data Comes (s : Setting) (unread : List ℕ) (run : Run) (m out : List ℕ) : Type 0 where
+  begins : Begins s run m out → Comes s unread run m out
+  goes : {input left held : List ℕ} {b : Run} → Goes s input left held b m → (more : List ℕ) → unread ≡ left ++ more
+      → run ≡ record { receiver = b.receiver; done = b.done; ten = b.ten; at = 0; from = run.from } → Comes s unread run m out
 
 -- behind the records taken, with these bytes left
-pub record Went (unread : List ℕ) (r : Run) (m : List ℕ) : Type 0 where
-  pub setting : Setting
+pub record Went (s : Setting) (unread : List ℕ) (r : Run) (m : List ℕ) : Type 0 where
   pub input : List ℕ
   pub held : List ℕ
-  pub goes_so : Goes setting input unread held r m
+  pub goes_so : Goes s input unread held r m
 
--- no more TPs are done than the input so far has bytes, of which n more may be read
-pub record Before (p : Lister) (n : ℕ) (unread : List ℕ) : Type 0 where
+-- no more TPs are done than the input so far has bytes, of which n more may be read; and from round to round the settings are those of the
+-- receiver that the loop began with
+pub record Before (begun p : Lister) (n : ℕ) (unread : List ℕ) : Type 0 where
   pub ready : Callable p
   pub size : length unread ≤ 131072
   pub count : p.run.done + length unread + n ≤ 9223372036854775808
-  pub comes : Comes unread p.run p.room p.out
+  pub comes : Comes (setting_of begun.run.receiver) unread p.run p.room p.out
 
-pub record Behind (p : Lister) (n : ℕ) (unread : List ℕ) : Type 0 where
+pub record Behind (begun p : Lister) (n : ℕ) (unread : List ℕ) : Type 0 where
   pub ready : Callable p
   pub count : p.run.done + length unread + n ≤ 9223372036854775808
-  pub went : Went unread p.run p.room
+  pub went : Went (setting_of begun.run.receiver) unread p.run p.room
 
 -- what is opened begins
 pub record Opened (p : Lister) : Type 0 where

@@ -21,9 +21,9 @@ impl Program for Packing {
 
     ghost PLACE = { Sending };
 
-    ghost Before = { λ _ _ _. Unit {0} };
+    ghost Before = { λ _ _ _ _. Unit {0} };
 
-    ghost Behind = { λ _ _ _. Unit {0} };
+    ghost Behind = { λ _ _ _ _. Unit {0} };
 
     fn take(&mut self, unread: &[u8]) -> Taken {
         let mut bytes = 0;

@@ -106,9 +106,9 @@ impl Program for Sending {
 
     ghost PLACE = { P.Sending };
 
-    ghost Before = { λ sending n unread. Ready sending × Comes sending unread };
+    ghost Before = { λ _ sending n unread. Ready sending × Comes sending unread };
 
-    ghost Behind = { λ sending n unread. Ready sending × Went sending unread };
+    ghost Behind = { λ _ sending n unread. Ready sending × Went sending unread };
 
     fn take(&mut self, unread: &[u8]) -> Taken {
         self.turns(unread)

@@ -66,9 +66,9 @@ impl Program for Unpacking {
 
     ghost PLACE = { Listing };
 
-    ghost Before = { λ unpacking _ _. Able unpacking.receiver };
+    ghost Before = { λ _ unpacking _ _. Able unpacking.receiver };
 
-    ghost Behind = { λ unpacking _ _. Able unpacking.receiver };
+    ghost Behind = { λ _ unpacking _ _. Able unpacking.receiver };
 
     fn take(&mut self, unread: &[u8]) -> Taken {
         let mut bytes = 0;

@@ -6,7 +6,7 @@ use Rattle.house.specs.declared.Place.TheVariants.{Listing}
 use Rattle.c7read.proofs.ReadingProgram.take.Goals as goal
 
 pub loop-self-init : goal.loop-self-init
-loop-self-init c = record { able = c.requires.1; whole = none_taken Listing c.args.unread.now }
+loop-self-init c = record { able = c.requires.1.1; whole = none_taken Listing c.args.unread.now }
 
 pub loop-self-smaller : goal.loop-self-smaller
 loop-self-smaller c =

@@ -1,4 +1,5 @@
--- `Console::run`: what the program asks before the bytes that are unread holds in each round, with as many blocks as are left.
+-- `Console::run`: what the program asks before the bytes that are unread holds in each round, of the program that the loop began with, and with
+-- as many blocks as are left.
 -- Assumes nothing.
 use Prim.Native.Nat.{◌-◌, ◌*◌, ◌≤◌}
 use mathlib.Core.Path.{◌≡◌}
@@ -12,5 +13,5 @@ invariant-loop g l = record {
   from : l.unread.from ≤ l.unread.till;
   till : l.unread.till ≤ SIZE;
   size : length l.block ≡ SIZE;
-  before : g.P.Program.Before l.program ((BLOCKS - l.counter) * SIZE) (stretch l.block l.unread);
+  before : g.P.Program.Before l.initial.program l.program ((BLOCKS - l.counter) * SIZE) (stretch l.block l.unread);
 }

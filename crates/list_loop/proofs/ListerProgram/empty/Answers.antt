@@ -6,7 +6,7 @@ use Rattle.list_loop.proofs.Rounds.{comes}
 use Rattle.list_loop.proofs.ListerProgram.empty.Goals as goal
 
 pub returns : goal.returns
-returns c = λ n m rest more left size b. (
+returns c = λ begun n m rest more left size b. (
     let both = length-append rest more in
     record {
       ready = record { able = b.ready.able; placed = b.ready.placed; ten = b.ready.ten; room = b.ready.room };

@@ -10,7 +10,7 @@ pub returns-clause-whole : goal.returns-clause-whole
 returns-clause-whole c = listed_whole refl c.turns-self.ensures.listed
 
 pub returns-clause-behind : goal.returns-clause-behind
-returns-clause-behind c = λ n b. (
+returns-clause-behind c = λ begun n b. (
     let a = c.turns-self.ensures.ahead in
     let left = length-drop c.turns-self.result.from c.args.unread.now in
     record {

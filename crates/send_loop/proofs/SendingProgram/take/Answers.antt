@@ -6,4 +6,4 @@ use Rattle.send_loop.proofs.SendingProgram.take.Goals as goal
 pub returns : goal.returns
 returns c =
     let t = c.turns.ensures in
-    record { whole = t.whole; begins = t.begins; behind = λ n h. (t.ready, went h.1 t.sent) }
+    record { whole = t.whole; begins = t.begins; behind = λ begun n h. (t.ready, went h.1 t.sent) }
