@@ -196,6 +196,10 @@ module _ (P : ℕ) (b : List ℕ) (q : Ring) (d₀ d : List ℕ) (t : Ring) (at 
           (λ h. ap length e ∙ rw (lt-ltb 4 at h) (length-set d (at - 1) 0 ∙ i.size))
           (split at 4)
 
+      -- no LLEP leaves
+      pub untouched : at ≡ 4 → d' ≡ d₀
+      untouched h = e ∙ rw (le-ltb 4 at (omega arith)) (i.fresh h).0
+
       pub ends : length d₀ ≡ P + 4 → Parted P b q d₀ d' t at
       ends s =
           let none = none_leaves i.fuel P (held b t) (P + 4 - at) (next_n ∙ z) in

@@ -59,9 +59,9 @@ pub record Parted (P : ℕ) (b : List ℕ) (q : Ring) (d d' : List ℕ) (r : Rin
   pub ring : r ≡ off (length b) q (length (flatten (leave (suc P) P (held b q) P)))
   pub gone : length (flatten (leave (suc P) P (held b q) P)) ≤ q.len
 
--- that was tried: where it is refused, nothing is written
+-- that was tried: where it is refused, or no LLEP leaves, nothing is written
 abbrev pub Looked : ℕ → List ℕ → Ring → List ℕ → List ℕ → Result Part Refusal → Type 0
-Looked P b q d d' (Ok p) = (drawable P (held b q) (length d) ≡ Ok tt) × Parted P b q d d' p.ring p.at
+Looked P b q d d' (Ok p) = (drawable P (held b q) (length d) ≡ Ok tt) × (Parted P b q d d' p.ring p.at × (p.at ≡ 4 → d' ≡ d))
 Looked P b q d d' (Err k) = (drawable P (held b q) (length d) ≡ Err k) × (d' ≡ d)
 
 -- the ordinary bytes were written into d from place at to its end: r is the ring then

@@ -28,10 +28,10 @@ ordinary_part-o-requires c =
     let w = c.s.invariant in
     let k = c.in_ok-p.ensures in
     let ed = length_drawable _ _ _ k.0 in
-    let p = k.1.within in
+    let p = k.1.0.within in
     let m = c.s.invariant.payload_most in
     let o = c.s.invariant.owed in
-    let d = k.1.same in
+    let d = k.1.0.same in
     record { kept = kept_own v w c.args.ordinary.now r.1; at_in_bounds = (omega arith, omega arith, o) }
 
 pub overflow_sub-at : goal.overflow_sub-at
@@ -39,7 +39,7 @@ overflow_sub-at c =
     let w = c.s.invariant in
     let k = c.in_ok-p.ensures in
     let ed = length_drawable _ _ _ k.0 in
-    let p = k.1 in
+    let p = k.1.0 in
     let pw = p.within in
     let pe = p.end in
     let m = c.s.invariant.payload_most in
@@ -62,7 +62,7 @@ overflow_sub-g c =
     let w = c.s.invariant in
     let k = c.in_ok-p.ensures in
     let ed = length_drawable _ _ _ k.0 in
-    let p = k.1 in
+    let p = k.1.0 in
     let pw = p.within in
     let pe = p.end in
     let m = c.s.invariant.payload_most in
@@ -73,7 +73,7 @@ offset_of-offset-requires c =
     let w = c.s.invariant in
     let k = c.in_ok-p.ensures in
     let ed = length_drawable _ _ _ k.0 in
-    let p = k.1 in
+    let p = k.1.0 in
     let pw = p.within in
     let pe = p.end in
     let m = c.s.invariant.payload_most in
@@ -90,7 +90,7 @@ rest_after-rest-requires c =
     let w = c.s.invariant in
     let k = c.in_ok-p.ensures in
     let ed = length_drawable _ _ _ k.0 in
-    let p = k.1 in
+    let p = k.1.0 in
     record { kept = kept_own v w a.ordinary.now r.1; rest_le_len = (w.rest, gone_few v w a.low.now a.ordinary.now a.tp.now _ _ _ _ _ _ _ r.0 r.1 ed p c.ordinary_part-o.ensures, space_most v w) }
 
 pub shape_of-tp : goal.shape_of-tp
@@ -101,7 +101,7 @@ shape_of-tp c =
     let w = c.s.invariant in
     let k = c.in_ok-p.ensures in
     let ed = length_drawable _ _ _ k.0 in
-    let p = k.1 in
+    let p = k.1.0 in
     drawn_length v w a.low.now a.ordinary.now a.tp.now _ _ _ _ _ _ _ r.0 r.1 ed p c.ordinary_part-o.ensures _ c.tp_header_of-h.result c.copy_at.ensures
 
 pub invariant_of-result : goal.invariant_of-result
@@ -112,7 +112,7 @@ invariant_of-result c =
     let w = c.s.invariant in
     let k = c.in_ok-p.ensures in
     let ed = length_drawable _ _ _ k.0 in
-    let p = k.1 in
+    let p = k.1.0 in
     let o = c.ordinary_part-o.ensures in
     still_sound v w a.low.now a.ordinary.now a.tp.now _ _ _ _ _ _ _ r.0 r.1 ed p o _ c.rest_after-rest.ensures.1
 
@@ -124,7 +124,7 @@ returns c =
     let w = c.s.invariant in
     let k = c.in_ok-p.ensures in
     let ed = length_drawable _ _ _ k.0 in
-    let p = k.1 in
+    let p = k.1.0 in
     let o = c.ordinary_part-o.ensures in
     let e = is_lent v.setting (length a.low.now) (length a.ordinary.now) r.0 r.1 in
     let f = finished v w a.low.now a.ordinary.now a.tp.now _ _ _ _ _ _ _ r.0 r.1 ed p o _ _ _ _ _ c.offset_of-offset.ensures refl c.tp_header_of-h.ensures c.copy_at.ensures c.rest_after-rest.ensures.0 in

@@ -3,7 +3,7 @@ use mathlib.Core.Path.{◌≡◌, refl, sym, ◌∙◌}
 use Prim.Native.Nat.{◌≤◌}
 use native.Mathlib.Omega.{arith}
 use Rattle.sender.proofs.Passing.{found_is, found_none}
-use Rattle.sender.proofs.Lows.{starts, room, fits, stays, spoilt, unfit, fit, ends, other_length, again}
+use Rattle.sender.proofs.Lows.{starts, room, fits, stays, spoilt, unfit, fit, untouched, ends, other_length, again}
 use Rattle.sender.proofs.part.low_part.Goals as goal
 use Rattle.sender.proofs.part.low_part.Goals.{else-at-eq4-via-then-at-eq4+else-q-gt0, else-at-eq4-via-else-at-eq4}
 
@@ -148,4 +148,4 @@ returns c =
       | else-at-eq4-via-else-at-eq4 w ↦ (λ e. absurd (w.if-at-eq4.false e))
     ] in
     let s = c.if-not-is_tp-2.false in
-    (fit a.payload a.buf.now a.q a.tp.now l.tp l.t l.at l.invariant _ refl z c.requires.kept idle s, ends a.payload a.buf.now a.q a.tp.now l.tp l.t l.at l.invariant _ refl z _ c.end.ensures s)
+    (fit a.payload a.buf.now a.q a.tp.now l.tp l.t l.at l.invariant _ refl z c.requires.kept idle s, (ends a.payload a.buf.now a.q a.tp.now l.tp l.t l.at l.invariant _ refl z _ c.end.ensures s, untouched a.payload a.buf.now a.q a.tp.now l.tp l.t l.at l.invariant _ refl z _ c.end.ensures))
