@@ -51,7 +51,7 @@ looked_up b rs xs n long many all =
     eqb→eq (get_or xs k 0) (chosen rs k) t ∙ at b rs n long
 
 -- rows fall into two groups
-in_two : (b : ℕ) (xs ys : List ℕ) (n c d : ℕ) → length ys ≡ b
+pub in_two : (b : ℕ) (xs ys : List ℕ) (n c d : ℕ) → length ys ≡ b
     → c ≡ chosen xs (n / 2 ^ b) → d ≡ chosen ys n → bit_xor c d ≡ chosen (xs ++ ys) n
 in_two b xs ys n c d long e f = ap₂ bit_xor e f ∙ sym (rw long at (split xs ys n))
 
