@@ -10,6 +10,7 @@ ghost use Rattle.receiver.specs.Lanes.{in_lane};
 ghost use Rattle.receiver.specs.InTracks.{UnkeptAs, KeptAs, sight_of};
 ghost use Rattle.receiver.specs.Tracks.{Placed, place_in, lane_in, Kempt, turned_of, TracksAs, Seen, BehindAs, SetsOut, BriefAs, DroppedAs, FilledIf};
 
+pub use crate::entry::Top;
 use crate::lane::Lane;
 use crate::walk::Phase;
 use crate::{Place, Receiver, Stage, Stamp, entry, lane, low, over, stamps, stride, walk};
