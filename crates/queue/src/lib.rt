@@ -21,7 +21,8 @@ fn copy_run(dst: &mut [u8], at: usize, src: &[u8])
     dst[at..end].copy_from_slice(src);
 }
 
-// Copies src into dst from index at on, as much as there is place for.
+// Copies src into dst from index at on, as much as there is place for. Where that is all of src, the compiler knows how much it copies
+// wherever it knows src's length.
 pub fn copy_at(dst: &mut [u8], at: usize, src: &[u8])
     ensures { dst.new ≡ copied dst.old at src.now }
 {
@@ -29,6 +30,10 @@ pub fn copy_at(dst: &mut [u8], at: usize, src: &[u8])
         return;
     }
     let n = clamped(dst.len(), at, src.len());
+    if n == src.len() {
+        copy_run(dst, at, src);
+        return;
+    }
     copy_run(dst, at, &src[..n]);
 }
 
@@ -124,7 +129,9 @@ impl Ring {
             self.write_apart(buf, h, body);
             return t;
         }
-        copy_run(buf, tail, &h);
+        // in two runs, each of which the compiler stores at once
+        copy_run(buf, tail, &h[..4]);
+        copy_run(buf, tail + 4, &h[4..6]);
         copy_run(buf, tail + 6, body);
         t
     }
