@@ -18,9 +18,9 @@ use std::fs::File;
 fn tell(console: Console<'_>, stop: Stop, begin: u64) {
     match stop {
         Stop::More => {}
-        Stop::End => console.say("no such packet"),
+        Stop::End => console.say(b"no such packet"),
         Stop::Bad(fault) => console.stop(begin, fault),
-        Stop::Unreadable => console.say("cannot read the recording"),
+        Stop::Unreadable => console.say(b"cannot read the recording"),
     }
 }
 
@@ -69,7 +69,7 @@ fn from(console: Console<'_>, recording: &File, setup: Setup, wanted: Wanted, by
 fn jump(console: Console<'_>, recording: &File, wanted: Wanted) {
     let mut head = [0u8; 13];
     let Some(n) = files::read_at(recording, 0, &mut head) else {
-        console.say("cannot read the recording");
+        console.say(b"cannot read the recording");
         return;
     };
     let Some(setup) = files::setup_in(console, &head[..n]) else {
@@ -111,15 +111,15 @@ fn from_words(rt: &HostRuntime) -> Option<Wanted> {
 fn main(rt: HostRuntime) {
     let console = Console {
         rt: &rt,
-        program: "c7at",
+        program: b"c7at",
     };
     let Some(wanted) = from_words(&rt) else {
-        console.say("asks for a recording, a record, a place, and low or ordinary");
+        console.say(b"asks for a recording, a record, a place, and low or ordinary");
         return;
     };
     let mut path = [0u8; 4096];
     let Some(recording) = files::open(&rt, files::word(&rt, 1, &mut path)) else {
-        console.say("cannot open the recording");
+        console.say(b"cannot open the recording");
         return;
     };
     jump(console, &recording, wanted);

@@ -32,7 +32,7 @@ fn top_behind(walk: Walk, size: u64) -> Top
 fn commit(console: Console<'_>, beside: &File, top: Top) {
     let is_safe = beside.sync_data().is_ok() && index::write_top(beside, top);
     if !is_safe {
-        console.say("cannot write the index");
+        console.say(b"cannot write the index");
     }
 }
 
@@ -54,7 +54,7 @@ fn is_told(console: Console<'_>, stop: Stop, begin: u64) -> bool {
             true
         }
         Stop::Unreadable => {
-            console.say("cannot read the recording");
+            console.say(b"cannot read the recording");
             false
         }
     }
@@ -90,7 +90,7 @@ fn onward(
         walk = index_loop::advance(recording, task, FULL, walk, block, room, out);
         let at = walk.at.min(out.len());
         if !files::write_at(beside, size, &out[..at]) {
-            console.say("cannot write the index");
+            console.say(b"cannot write the index");
             return;
         }
         size = files::sum(size, at as u64);
@@ -119,7 +119,7 @@ fn is_trimmed(beside: &File, size: u64) -> bool {
 // Grows the index with this line 0.
 pub fn from(console: Console<'_>, recording: &File, beside: &File, setup: Setup, top: Top) {
     if !is_trimmed(beside, top.size) {
-        console.say("cannot write the index");
+        console.say(b"cannot write the index");
         return;
     }
     let mut room = [0u8; 32768];

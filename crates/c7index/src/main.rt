@@ -12,13 +12,13 @@ use std::fs::File;
 fn between(console: Console<'_>, recording: &File, path: &[u8]) {
     let mut head = [0u8; 13];
     let Some(n) = files::read_at(recording, 0, &mut head) else {
-        console.say("cannot read the recording");
+        console.say(b"cannot read the recording");
         return;
     };
     let there = match index::open(console.rt, recording, path) {
         Ok(there) => there,
         Err(why) => {
-            console.say(why);
+            console.say(why.as_bytes());
             return;
         }
     };
@@ -26,7 +26,7 @@ fn between(console: Console<'_>, recording: &File, path: &[u8]) {
         return;
     };
     let Some((beside, top)) = there.or_else(|| index::make(console.rt, path)) else {
-        console.say("cannot make the index");
+        console.say(b"cannot make the index");
         return;
     };
     grow::from(console, recording, &beside, setup, top);
@@ -35,15 +35,15 @@ fn between(console: Console<'_>, recording: &File, path: &[u8]) {
 fn main(rt: HostRuntime) {
     let console = Console {
         rt: &rt,
-        program: "c7index",
+        program: b"c7index",
     };
     if !files::has_words(&rt, 2) {
-        console.say("asks for a recording and an index");
+        console.say(b"asks for a recording and an index");
         return;
     }
     let mut path = [0u8; 4096];
     let Some(recording) = files::open(&rt, files::word(&rt, 1, &mut path)) else {
-        console.say("cannot open the recording");
+        console.say(b"cannot open the recording");
         return;
     };
     let mut beside = [0u8; 4096];

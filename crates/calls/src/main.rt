@@ -286,7 +286,7 @@ fn main(rt: HostRuntime) {
     };
     let console = Console {
         rt: &rt,
-        program: "calls",
+        program: b"calls",
     };
     turns(
         console,

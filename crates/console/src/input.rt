@@ -10,11 +10,11 @@ impl Console<'_> {
     // Says why nothing more is read, where the last record is not whole or the first one is missing.
     fn say_end(self, begin: u64, is_read: bool, n: usize) {
         if !is_read {
-            self.say("cannot read");
+            self.say(b"cannot read");
         } else if 0 < n {
             self.stop(begin, Fault::Short);
         } else if begin == 0 {
-            self.say("no setup record");
+            self.say(b"no setup record");
         }
     }
 
@@ -39,7 +39,7 @@ impl Console<'_> {
 
     // Where no more records of the block can be taken: writes out what is held, and reads on unless a whole record is at hand. A bad
     // one stops the program.
-    pub(crate) fn go_on(
+    pub fn go_on(
         self,
         place: Place,
         block: &mut [u8],
@@ -64,7 +64,7 @@ impl Console<'_> {
     }
 
     // Says which number refused the record at the start of the stretch.
-    pub(crate) fn refused(self, unread: Unread, number: u8) {
+    pub fn refused(self, unread: Unread, number: u8) {
         self.refusal(stretch::begin_of(unread), number);
     }
 

@@ -24,7 +24,7 @@ pub const FULL: usize = 61440;
 #[derive(Clone, Copy)]
 pub struct Console<'a> {
     pub rt: &'a HostRuntime,
-    pub program: &'a str,
+    pub program: &'a [u8],
 }
 
 // How many bytes of the input came before the input block, and the stretch of it that was read and is not yet taken.

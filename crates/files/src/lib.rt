@@ -39,9 +39,16 @@ pub fn reaches(file: &File, size: u64) -> bool {
     read_at(file, size - 1, &mut last) == Some(1)
 }
 
-// Writes all of buf from this byte on, and answers whether it did.
+// Writes all of buf from this byte on, and answers whether it did. (std's `write_all_at` would write again what was interrupted.)
 pub fn write_at(file: &File, offset: u64, buf: &[u8]) -> bool {
-    file.write_all_at(buf, offset_of(offset)).is_ok()
+    let mut done = 0;
+    while done < buf.len() {
+        match file.write_at(&buf[done..], offset_of(sum(offset, done as u64))) {
+            Err(_) | Ok(0) => return false,
+            Ok(n) => done += n,
+        }
+    }
+    true
 }
 
 // Cuts the file behind so many bytes.
@@ -78,7 +85,7 @@ pub fn setup_in(console: Console<'_>, head: &[u8]) -> Option<Setup>
     ensures { BeginsWith head.now result }
 {
     if head.is_empty() {
-        console.say("no setup record");
+        console.say(b"no setup record");
         return None;
     }
     let fault = match house::read_record(Place::Start, head) {
