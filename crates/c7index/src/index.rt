@@ -2,6 +2,7 @@
 use line_zero::Top;
 use std::fs::File;
 use std::io::ErrorKind;
+use std::os::unix::fs::FileExt;
 use std::{fs, io};
 
 const SIZE: usize = 133;
@@ -61,11 +62,11 @@ pub fn open(
     }
 }
 
-// Writes line 0, which is safe then.
+// Writes line 0 by one write, which is safe then: no second one goes on where the first fell short, since line 0 alone commits.
 pub fn write_top(beside: &File, top: Top) -> bool {
     let mut text = [0u8; SIZE];
     line_zero::put_top(top, &mut text, 0);
-    files::write_at(beside, 0, &text) && beside.sync_data().is_ok()
+    matches!(beside.write_at(&text, 0), Ok(SIZE)) && beside.sync_data().is_ok()
 }
 
 // The empty index, in a file that is made or emptied.
