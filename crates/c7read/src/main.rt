@@ -12,19 +12,23 @@ use receiver::Receiver;
 // No TP has so many finds: a loop over them ends for this. One that it cut short would go on at the same place.
 const FINDS: u64 = 4096;
 
-// Between two finds: the receiver and its room, and how much of the output block is held. A record more than FULL bytes always has
-// room in it.
+// Between two finds: the receiver, and how much of the output block is held.
 #[derive(Drop)]
 struct Reading {
     receiver: Receiver,
+    at: usize,
+}
+
+// The receiver's room, and the output block. A record more than FULL bytes always has room in it.
+#[derive(Drop)]
+struct Buffers {
     room: [u8; 32768],
     out: [u8; 131072],
-    at: usize,
 }
 
 impl Reading {
     // The finds of a TP, while the output block has room; answers whether the TP is done.
-    fn finds(&mut self, tp: &[u8]) -> bool
+    fn finds(&mut self, buffers: &mut Buffers, tp: &[u8]) -> bool
         requires { Able self.old.receiver }
         ensures { Able self.new.receiver }
     {
@@ -32,7 +36,13 @@ impl Reading {
             if FULL <= self.at {
                 return false;
             }
-            let wrote = reading::step(self.receiver, tp, &mut self.room, &mut self.out, self.at);
+            let wrote = reading::step(
+                self.receiver,
+                tp,
+                &mut buffers.room,
+                &mut buffers.out,
+                self.at,
+            );
             self.receiver = wrote.step.receiver;
             self.at = wrote.at;
             if !receiver::lasts(wrote.step.find) {
@@ -43,12 +53,12 @@ impl Reading {
     }
 
     // What one record does; kinds other than 4 and 5 are not read here. Answers whether it is done.
-    fn turn(&mut self, said: Record, data: &[u8]) -> bool
+    fn turn(&mut self, buffers: &mut Buffers, said: Record, data: &[u8]) -> bool
         requires { Able self.old.receiver }
         ensures { Able self.new.receiver }
     {
         if let Record::Packet { .. } = said {
-            return self.finds(data);
+            return self.finds(buffers, data);
         }
         self.receiver = receiver::gap(self.receiver);
         true
@@ -56,15 +66,17 @@ impl Reading {
 }
 
 impl Program for Reading {
+    type Buffers = Buffers;
+
     const PLACE: Place = Place::Listing;
 
     ghost PLACE = { Listing };
 
-    ghost Before = { λ _ reading _ _. Able reading.receiver };
+    ghost Before = { λ _ reading _ _ _. Able reading.receiver };
 
-    ghost Behind = { λ _ reading _ _. Able reading.receiver };
+    ghost Behind = { λ _ reading _ _ _. Able reading.receiver };
 
-    fn take(&mut self, unread: &[u8]) -> Taken {
+    fn take(&mut self, buffers: &mut Buffers, unread: &[u8]) -> Taken {
         let mut bytes = 0;
         while self.at < FULL {
             let rest = &unread[bytes..];
@@ -72,7 +84,7 @@ impl Program for Reading {
                 break;
             };
             let data = house::data_of(said, rest);
-            if !self.turn(said, data) {
+            if !self.turn(buffers, said, data) {
                 break;
             }
             bytes += 8 + data.len();
@@ -83,8 +95,8 @@ impl Program for Reading {
         }
     }
 
-    fn held(&self) -> &[u8] {
-        &self.out[..self.at.min(self.out.len())]
+    fn held<'a>(&self, buffers: &'a Buffers) -> &'a [u8] {
+        &buffers.out[..self.at.min(buffers.out.len())]
     }
 
     fn empty(&mut self) {
@@ -96,23 +108,21 @@ impl Program for Reading {
 fn main(rt: HostRuntime) {
     let console = Console {
         rt: &rt,
-        program: "c7read",
+        program: b"c7read",
     };
     let mut block = [0; SIZE];
     let Some(start) = console.first(&mut block) else {
         return;
     };
-    let room = [0; 32768];
-    let Some(receiver) = receiver::open(start.setup.tp, start.setup.stream, &room) else {
+    let mut buffers = Buffers {
+        room: [0; 32768],
+        out: [0; 131072],
+    };
+    let Some(receiver) = receiver::open(start.setup.tp, start.setup.stream, &buffers.room) else {
         console.stop(0, Fault::Limits);
         return;
     };
-    let mut reading = Reading {
-        receiver,
-        room,
-        out: [0; 131072],
-        at: 0,
-    };
-    reading.at = block::put(&mut reading.out, 0, &block[0..13]);
-    console.run(&mut reading, start.unread, &mut block);
+    let at = block::put(&mut buffers.out, 0, &block[0..13]);
+    let mut reading = Reading { receiver, at };
+    console.run(&mut reading, &mut buffers, start.unread, &mut block);
 }

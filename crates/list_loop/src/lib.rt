@@ -122,23 +122,26 @@ fn turns(first: Run, till: usize, block: &[u8], room: &mut [u8], out: &mut [u8])
     run
 }
 
-// The program between two blocks: where it stands, the receiver's room, and the output block.
+// The program between two blocks: where it stands.
 #[derive(Drop)]
 struct Lister {
     run: Run,
+}
+
+// The receiver's room, and the output block.
+#[derive(Drop)]
+struct Buffers {
     room: [u8; 32768],
     out: [u8; 65536],
 }
 
 impl Lister {
     // With a receiver of these settings, and the header line held.
-    fn open(setup: Setup) -> Option<Lister>
-        ensures { IfSome result (λ p. Opened p) }
+    fn open(setup: Setup, buffers: &mut Buffers) -> Option<Lister>
+        ensures { IfSome result (λ p. Opened p buffers.new) }
     {
-        let room = [0; 32768];
-        let receiver = receiver::open(setup.tp, setup.stream, &room)?;
-        let mut out = [0; 65536];
-        let at = listing::header(&mut out, 0);
+        let receiver = receiver::open(setup.tp, setup.stream, &buffers.room)?;
+        let at = listing::header(&mut buffers.out, 0);
         Some(Lister {
             run: Run {
                 receiver,
@@ -147,13 +150,13 @@ impl Lister {
                 at,
                 from: 0,
             },
-            room,
-            out,
         })
     }
 }
 
 impl Program for Lister {
+    type Buffers = Buffers;
+
     const PLACE: Place = Place::Listing;
 
     ghost PLACE = { P.Listing };
@@ -162,20 +165,26 @@ impl Program for Lister {
 
     ghost Behind = { Behind };
 
-    fn take(&mut self, unread: &[u8]) -> Taken {
+    fn take(&mut self, buffers: &mut Buffers, unread: &[u8]) -> Taken {
         let first = Run {
             from: 0,
             ..self.run
         };
-        self.run = turns(first, unread.len(), unread, &mut self.room, &mut self.out);
+        self.run = turns(
+            first,
+            unread.len(),
+            unread,
+            &mut buffers.room,
+            &mut buffers.out,
+        );
         Taken {
             bytes: self.run.from,
             refused: None,
         }
     }
 
-    fn held(&self) -> &[u8] {
-        &self.out[..self.run.at.min(self.out.len())]
+    fn held<'a>(&self, buffers: &'a Buffers) -> &'a [u8] {
+        &buffers.out[..self.run.at.min(buffers.out.len())]
     }
 
     fn empty(&mut self) {
@@ -187,15 +196,19 @@ impl Program for Lister {
 pub fn from_input(rt: &HostRuntime) {
     let console = Console {
         rt,
-        program: "c7list",
+        program: b"c7list",
     };
     let mut block = [0; SIZE];
     let Some(start) = console.first(&mut block) else {
         return;
     };
-    let Some(mut lister) = Lister::open(start.setup) else {
+    let mut buffers = Buffers {
+        room: [0; 32768],
+        out: [0; 65536],
+    };
+    let Some(mut lister) = Lister::open(start.setup, &mut buffers) else {
         console.stop(0, Fault::Limits);
         return;
     };
-    console.run(&mut lister, start.unread, &mut block);
+    console.run(&mut lister, &mut buffers, start.unread, &mut block);
 }

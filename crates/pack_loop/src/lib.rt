@@ -7,25 +7,31 @@ ghost use Rattle.house.specs.declared.Place.TheVariants.{Sending};
 use console::{Console, FULL, Program, Refused, SIZE, Taken};
 use house::{Place, Record};
 
-// Between two records: a buffer for a source packet, and how much of the output block is held. A record more than FULL bytes always
-// has room in it.
+// Between two records: how much of the output block is held.
 #[derive(Drop)]
 struct Packing {
-    sp: [u8; 32768],
-    out: [u8; 131072],
     at: usize,
 }
 
+// A buffer for a source packet, and the output block. A record more than FULL bytes always has room in it.
+#[derive(Drop)]
+struct Buffers {
+    sp: [u8; 32768],
+    out: [u8; 131072],
+}
+
 impl Program for Packing {
+    type Buffers = Buffers;
+
     const PLACE: Place = Place::Sending;
 
     ghost PLACE = { Sending };
 
-    ghost Before = { λ _ _ _ _. Unit {0} };
+    ghost Before = { λ _ _ _ _ _. Unit {0} };
 
-    ghost Behind = { λ _ _ _ _. Unit {0} };
+    ghost Behind = { λ _ _ _ _ _. Unit {0} };
 
-    fn take(&mut self, unread: &[u8]) -> Taken {
+    fn take(&mut self, buffers: &mut Buffers, unread: &[u8]) -> Taken {
         let mut bytes = 0;
         while self.at < FULL {
             let rest = &unread[bytes..];
@@ -33,7 +39,7 @@ impl Program for Packing {
                 break;
             };
             let data = house::data_of(said, rest);
-            let packed = packing::turn(said, data, &mut self.sp, &mut self.out, self.at);
+            let packed = packing::turn(said, data, &mut buffers.sp, &mut buffers.out, self.at);
             let begin = bytes;
             self.at = packed.at;
             bytes += 8 + data.len();
@@ -53,8 +59,8 @@ impl Program for Packing {
         }
     }
 
-    fn held(&self) -> &[u8] {
-        &self.out[..self.at.min(self.out.len())]
+    fn held<'a>(&self, buffers: &'a Buffers) -> &'a [u8] {
+        &buffers.out[..self.at.min(buffers.out.len())]
     }
 
     fn empty(&mut self) {
@@ -66,17 +72,17 @@ impl Program for Packing {
 pub fn from_input(rt: &HostRuntime) {
     let console = Console {
         rt,
-        program: "c7pack",
+        program: b"c7pack",
     };
     let mut block = [0u8; SIZE];
     let Some(start) = console.first(&mut block) else {
         return;
     };
-    let mut packing = Packing {
+    let mut buffers = Buffers {
         sp: [0; 32768],
         out: [0; 131072],
-        at: 0,
     };
-    packing.at = packing::put_record(Record::Setup, &block[8..13], &mut packing.out, 0);
-    console.run(&mut packing, start.unread, &mut block);
+    let at = packing::put_record(Record::Setup, &block[8..13], &mut buffers.out, 0);
+    let mut packing = Packing { at };
+    console.run(&mut packing, &mut buffers, start.unread, &mut block);
 }

@@ -6,22 +6,23 @@ use Rattle.house.specs.Series.{Item, Taken}
 use Rattle.sender.specs.Opening.{Sound}
 use Rattle.sender.specs.Run.{World}
 use Rattle.sending.specs.Scripts.{sent_by, left_by}
+use Rattle.send_loop.specs.declared.Buffers.{Buffers}
 use Rattle.send_loop.specs.declared.Sending.{Sending}
 
-pub record Ready (p : Sending) : Type 0 where
+pub record Ready (p : Sending) (b : Buffers) : Type 0 where
   pub sound : Sound p.sender
   -- a TP's record has room wherever the block is not full
-  pub room : 61448 + p.tp ≤ length p.out
+  pub room : 61448 + p.tp ≤ length b.out
 
 -- the sender and its queues
-abbrev pub world_of : Sending → World
-world_of p = record { sender = p.sender; low = p.low; ordinary = p.ordinary }
+abbrev pub world_of : Sending → Buffers → World
+world_of p b = record { sender = p.sender; low = b.low; ordinary = b.ordinary }
 
 -- WHAT IS HELD: behind what the output block held stands what these records write, which were taken from the start of the bytes s and left
 -- t; and the sender and its queues are those that they leave
-pub record Sent (first : Sending) (s : List ℕ) (p : Sending) (t : List ℕ) : Type 0 where
+pub record Sent (first : Sending) (lent : Buffers) (s : List ℕ) (p : Sending) (b : Buffers) (t : List ℕ) : Type 0 where
   pub tp : p.tp ≡ first.tp
   pub records : List Item
   pub taken : Taken P.Sending s records t
-  pub held : take p.at p.out ≡ take first.at first.out ++ sent_by first.tp (world_of first) records
-  pub world : world_of p ≡ left_by first.tp (world_of first) records
+  pub held : take p.at b.out ≡ take first.at lent.out ++ sent_by first.tp (world_of first lent) records
+  pub world : world_of p b ≡ left_by first.tp (world_of first lent) records

@@ -16,53 +16,57 @@ use console::{Console, FULL, Program, Refused, SIZE, Taken};
 use house::{Fault, Place, Record, Setup};
 use sender::{Refusal, Sender};
 
-// Between two records: the sender with its TP length and its queues, and how much of the output block is held.
+// Between two records: the sender with its TP length, and how much of the output block is held.
 #[derive(Drop)]
 struct Sending {
     sender: Sender,
     tp: usize,
+    at: usize,
+}
+
+// The sender's queues, and the output block.
+#[derive(Drop)]
+struct Buffers {
     low: [u8; 32768],
     ordinary: [u8; 32768],
     out: [u8; 65536],
-    at: usize,
 }
 
 impl Sending {
     // With these settings and their setup record held.
-    fn open(setup: Setup, bytes: &[u8]) -> Result<Sending, Refusal>
+    fn open(setup: Setup, bytes: &[u8], buffers: &mut Buffers) -> Result<Sending, Refusal>
         requires { length bytes.now ≡ 5 }
-        ensures { IfOk result (λ p. Ready p × (take p.at p.out ≡ record_bytes R.Setup bytes.now)) }
+        ensures { IfOk result (λ p. Ready p buffers.new × (take p.at buffers.new.out ≡ record_bytes R.Setup bytes.now)) }
     {
-        let low = [0; 32768];
-        let ordinary = [0; 32768];
-        let sender = sender::open(setup.tp, setup.stream, setup.piece, &low, &ordinary)?;
-        let mut out = [0; 65536];
-        let at = sending::begin(bytes, &mut out);
+        let sender = sender::open(
+            setup.tp,
+            setup.stream,
+            setup.piece,
+            &buffers.low,
+            &buffers.ordinary,
+        )?;
         Ok(Sending {
             sender,
             tp: setup.tp,
-            low,
-            ordinary,
-            out,
-            at,
+            at: sending::begin(bytes, &mut buffers.out),
         })
     }
 
     // What one record does, or the number of its refusal.
-    fn turn(&mut self, said: Record, sp: &[u8]) -> Option<u8>
+    fn turn(&mut self, buffers: &mut Buffers, said: Record, sp: &[u8]) -> Option<u8>
         requires { Sound self.old.sender }
         ensures sound { Sound self.new.sender }
-        ensures same { (self.new.tp ≡ self.old.tp) × (length self.new.out ≡ length self.old.out) }
-        ensures after { record { sender = self.new.sender; low = self.new.low; ordinary = self.new.ordinary; block = record { bytes = self.new.out; at = self.new.at }; refused = result } ≡ turn_of said self.old.sender sp.now self.old.low self.old.ordinary self.old.tp (record { bytes = self.old.out; at = self.old.at }) }
+        ensures same { (self.new.tp ≡ self.old.tp) × (length buffers.new.out ≡ length buffers.old.out) }
+        ensures after { record { sender = self.new.sender; low = buffers.new.low; ordinary = buffers.new.ordinary; block = record { bytes = buffers.new.out; at = self.new.at }; refused = result } ≡ turn_of said self.old.sender sp.now buffers.old.low buffers.old.ordinary self.old.tp (record { bytes = buffers.old.out; at = self.old.at }) }
     {
         let turned = sending::turn(
             self.sender,
             said,
             sp,
-            &mut self.low,
-            &mut self.ordinary,
+            &mut buffers.low,
+            &mut buffers.ordinary,
             self.tp,
-            &mut self.out,
+            &mut buffers.out,
             self.at,
         );
         self.sender = turned.sender;
@@ -71,12 +75,12 @@ impl Sending {
     }
 
     // Takes the whole records of the stretch, while the output block has room, up to the first offer that is refused.
-    fn turns(&mut self, unread: &[u8]) -> Taken
-        requires { Ready self.old }
-        ensures ready { Ready self.new }
+    fn turns(&mut self, buffers: &mut Buffers, unread: &[u8]) -> Taken
+        requires { Ready self.old buffers.old }
+        ensures ready { Ready self.new buffers.new }
         ensures whole { Whole P.Sending unread.now result.bytes }
         ensures begins { IfSome result.refused (λ r. r.begin ≤ length unread.now) }
-        ensures sent { Sent self.old unread.now self.new (drop result.bytes unread.now) }
+        ensures sent { Sent self.old buffers.old unread.now self.new buffers.new (drop result.bytes unread.now) }
     {
         let mut bytes = 0;
         while self.at < FULL {
@@ -87,7 +91,7 @@ impl Sending {
             let sp = house::data_of(said, rest);
             let begin = bytes;
             bytes += 8 + sp.len();
-            if let Some(number) = self.turn(said, sp) {
+            if let Some(number) = self.turn(buffers, said, sp) {
                 return Taken {
                     bytes,
                     refused: Some(Refused { begin, number }),
@@ -102,20 +106,22 @@ impl Sending {
 }
 
 impl Program for Sending {
+    type Buffers = Buffers;
+
     const PLACE: Place = Place::Sending;
 
     ghost PLACE = { P.Sending };
 
-    ghost Before = { λ _ sending n unread. Ready sending × Comes sending unread };
+    ghost Before = { λ _ sending buffers n unread. Ready sending buffers × Comes sending buffers unread };
 
-    ghost Behind = { λ _ sending n unread. Ready sending × Went sending unread };
+    ghost Behind = { λ _ sending buffers n unread. Ready sending buffers × Went sending buffers unread };
 
-    fn take(&mut self, unread: &[u8]) -> Taken {
-        self.turns(unread)
+    fn take(&mut self, buffers: &mut Buffers, unread: &[u8]) -> Taken {
+        self.turns(buffers, unread)
     }
 
-    fn held(&self) -> &[u8] {
-        &self.out[..self.at.min(self.out.len())]
+    fn held<'a>(&self, buffers: &'a Buffers) -> &'a [u8] {
+        &buffers.out[..self.at.min(buffers.out.len())]
     }
 
     fn empty(&mut self) {
@@ -127,15 +133,20 @@ impl Program for Sending {
 pub fn from_input(rt: &HostRuntime) {
     let console = Console {
         rt,
-        program: "c7send",
+        program: b"c7send",
     };
     let mut block = [0; SIZE];
     let Some(start) = console.first(&mut block) else {
         return;
     };
-    let Ok(mut sending) = Sending::open(start.setup, &block[8..13]) else {
+    let mut buffers = Buffers {
+        low: [0; 32768],
+        ordinary: [0; 32768],
+        out: [0; 65536],
+    };
+    let Ok(mut sending) = Sending::open(start.setup, &block[8..13], &mut buffers) else {
         console.stop(0, Fault::Limits);
         return;
     };
-    console.run(&mut sending, start.unread, &mut block);
+    console.run(&mut sending, &mut buffers, start.unread, &mut block);
 }

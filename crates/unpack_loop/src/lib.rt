@@ -12,19 +12,23 @@ use receiver::Receiver;
 // No TP has so many finds: a loop over them ends for this.
 const FINDS: u64 = 65536;
 
-// Between two finds: the receiver and its room, and how much of the output block is held. The packets of a TP more than FULL bytes
-// always have room in it.
+// Between two finds: the receiver, and how much of the output block is held.
 #[derive(Drop)]
 struct Unpacking {
     receiver: Receiver,
+    at: usize,
+}
+
+// The receiver's room, and the output block. The packets of a TP more than FULL bytes always have room in it.
+#[derive(Drop)]
+struct Buffers {
     room: [u8; 32768],
     out: [u8; 131072],
-    at: usize,
 }
 
 impl Unpacking {
     // The finds of a TP, up to the first packet that is refused, whose number it answers; else the TP is done.
-    fn finds(&mut self, tp: &[u8]) -> Option<u8>
+    fn finds(&mut self, buffers: &mut Buffers, tp: &[u8]) -> Option<u8>
         requires { Able self.old.receiver }
         ensures { Able self.new.receiver }
     {
@@ -32,8 +36,8 @@ impl Unpacking {
             let stepped = unpacking::step(
                 self.receiver,
                 tp,
-                &mut self.room,
-                &mut self.out,
+                &mut buffers.room,
+                &mut buffers.out,
                 self.at,
             );
             self.receiver = stepped.step.receiver;
@@ -49,12 +53,12 @@ impl Unpacking {
     }
 
     // What one record does; kinds other than 4 and 5 are not read here.
-    fn turn(&mut self, said: Record, data: &[u8]) -> Option<u8>
+    fn turn(&mut self, buffers: &mut Buffers, said: Record, data: &[u8]) -> Option<u8>
         requires { Able self.old.receiver }
         ensures { Able self.new.receiver }
     {
         if let Record::Packet { .. } = said {
-            return self.finds(data);
+            return self.finds(buffers, data);
         }
         self.receiver = receiver::gap(self.receiver);
         None
@@ -62,15 +66,17 @@ impl Unpacking {
 }
 
 impl Program for Unpacking {
+    type Buffers = Buffers;
+
     const PLACE: Place = Place::Listing;
 
     ghost PLACE = { Listing };
 
-    ghost Before = { λ _ unpacking _ _. Able unpacking.receiver };
+    ghost Before = { λ _ unpacking _ _ _. Able unpacking.receiver };
 
-    ghost Behind = { λ _ unpacking _ _. Able unpacking.receiver };
+    ghost Behind = { λ _ unpacking _ _ _. Able unpacking.receiver };
 
-    fn take(&mut self, unread: &[u8]) -> Taken {
+    fn take(&mut self, buffers: &mut Buffers, unread: &[u8]) -> Taken {
         let mut bytes = 0;
         while self.at < FULL {
             let rest = &unread[bytes..];
@@ -78,7 +84,7 @@ impl Program for Unpacking {
                 break;
             };
             let data = house::data_of(said, rest);
-            if let Some(number) = self.turn(said, data) {
+            if let Some(number) = self.turn(buffers, said, data) {
                 return Taken {
                     bytes,
                     refused: Some(Refused {
@@ -95,8 +101,8 @@ impl Program for Unpacking {
         }
     }
 
-    fn held(&self) -> &[u8] {
-        &self.out[..self.at.min(self.out.len())]
+    fn held<'a>(&self, buffers: &'a Buffers) -> &'a [u8] {
+        &buffers.out[..self.at.min(buffers.out.len())]
     }
 
     fn empty(&mut self) {
@@ -108,22 +114,20 @@ impl Program for Unpacking {
 pub fn from_input(rt: &HostRuntime) {
     let console = Console {
         rt,
-        program: "c7unpack",
+        program: b"c7unpack",
     };
     let mut block = [0; SIZE];
     let Some(start) = console.first(&mut block) else {
         return;
     };
-    let room = [0; 32768];
-    let Some(receiver) = receiver::open(start.setup.tp, start.setup.stream, &room) else {
+    let mut buffers = Buffers {
+        room: [0; 32768],
+        out: [0; 131072],
+    };
+    let Some(receiver) = receiver::open(start.setup.tp, start.setup.stream, &buffers.room) else {
         console.stop(0, Fault::Limits);
         return;
     };
-    let mut unpacking = Unpacking {
-        receiver,
-        room,
-        out: [0; 131072],
-        at: 0,
-    };
-    console.run(&mut unpacking, start.unread, &mut block);
+    let mut unpacking = Unpacking { receiver, at: 0 };
+    console.run(&mut unpacking, &mut buffers, start.unread, &mut block);
 }

@@ -13,5 +13,5 @@ invariant-loop g l = record {
   from : l.unread.from ≤ l.unread.till;
   till : l.unread.till ≤ SIZE;
   size : length l.block ≡ SIZE;
-  before : g.P.Program.Before l.initial.program l.program ((BLOCKS - l.counter) * SIZE) (stretch l.block l.unread);
+  before : g.P.Program.Before l.initial.program l.program l.buffers ((BLOCKS - l.counter) * SIZE) (stretch l.block l.unread);
 }

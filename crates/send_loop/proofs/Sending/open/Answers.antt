@@ -11,4 +11,4 @@ pub returns : goal.returns
 returns c =
     let o = c.open.ensures in
     let most = (opened_is _ _ _ _ _ _ (sym o.result_value ∙ ap given_by c.in_ok-sender.was)).0.tp_most in
-    (record { sound = c.in_ok-sender.ensures.sound_answer; room = omega arith }, begun_held c.args.bytes.now _ c.requires (omega arith) _ _ c.begin-at.ensures)
+    (record { sound = c.in_ok-sender.ensures.sound_answer; room = omega arith }, begun_held c.args.bytes.now _ c.requires (omega arith) _ _ c.begin.ensures)

@@ -9,7 +9,7 @@ use Rattle.send_loop.proofs.Held.{sent_none, sent_then}
 use Rattle.send_loop.proofs.Sending.turns.Goals as goal
 
 pub loop-self-init : goal.loop-self-init
-loop-self-init c = record { ready = c.requires; whole = none_taken P.Sending c.args.unread.now; sent = sent_none _ _ }
+loop-self-init c = record { ready = c.requires; whole = none_taken P.Sending c.args.unread.now; sent = sent_none _ _ _ }
 
 pub loop-self-smaller : goal.loop-self-smaller
 loop-self-smaller c =
@@ -26,11 +26,11 @@ loop-self-preserved c =
     let ok = c.in-Ok-Some.is in
     let some = c.in-Ok-Some.field-0-is in
     let sp = c.data_of-sp.ensures in
-    let room : p.at + 8 + p.tp ≤ length p.out = omega arith in
+    let room : p.at + 8 + p.tp ≤ length c.loop-self.buffers.out = omega arith in
     record {
       ready = record { sound = t.sound; room = omega arith };
       whole = one_more w read ok some sp;
-      sent = sent_then _ _ _ _ i.sent _ _ _ _ _ (at_hand_is w read ok some sp) (data_at_hand w read ok some sp) (rest_behind w read ok some sp) room t.same.0 t.after;
+      sent = sent_then _ _ _ _ _ _ i.sent _ _ _ _ _ _ (at_hand_is w read ok some sp) (data_at_hand w read ok some sp) (rest_behind w read ok some sp) room t.same.0 t.after;
     }
 
 pub returns-in-Some-clause-ready : goal.returns-in-Some-clause-ready
@@ -49,5 +49,5 @@ returns-in-Some-clause-sent c =
     let ok = c.in-Ok-Some.is in
     let some = c.in-Ok-Some.field-0-is in
     let sp = c.data_of-sp.ensures in
-    let room : p.at + 8 + p.tp ≤ length p.out = omega arith in
-    sent_then _ _ _ _ i.sent _ _ _ _ _ (at_hand_is w read ok some sp) (data_at_hand w read ok some sp) (rest_behind w read ok some sp) room t.same.0 t.after
+    let room : p.at + 8 + p.tp ≤ length c.loop-self.buffers.out = omega arith in
+    sent_then _ _ _ _ _ _ i.sent _ _ _ _ _ _ (at_hand_is w read ok some sp) (data_at_hand w read ok some sp) (rest_behind w read ok some sp) room t.same.0 t.after

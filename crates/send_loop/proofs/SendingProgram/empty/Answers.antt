@@ -5,4 +5,4 @@ use Rattle.send_loop.proofs.Whole.{comes}
 use Rattle.send_loop.proofs.SendingProgram.empty.Goals as goal
 
 pub returns : goal.returns
-returns c = λ begun n m rest more h size w. (record { sound = w.0.sound; room = w.0.room }, comes c.args.self.now _ rest more w.1 refl refl refl)
+returns c = λ begun b n m rest more h size w. (record { sound = w.0.sound; room = w.0.room }, comes c.args.self.now _ b rest more w.1 refl refl refl)
