@@ -6,7 +6,6 @@
 mod flips;
 
 use flips::Tally;
-use std::io;
 
 const NUMBERS: [u16; 16] = [
     0x000, 0x001, 0x7FF, 0xFFF, 0x800, 0xAAA, 0x555, 0xC75, 0x0F0, 0x123, 0xA4F, 0x8EB, 0x39C,
@@ -42,21 +41,18 @@ fn random() -> Tally {
     t
 }
 
-fn printed(rt: &HostRuntime) -> io::Result<()> {
-    println!(rt; "encode 4096 digest {}", encoded())?;
+// A line that cannot be printed ends nothing.
+fn main(rt: HostRuntime) {
+    let _ = println!(rt; "encode 4096 digest {}", encoded());
     let ends = ends();
     let [zeros, ones, _, _, beyond] = ends.counts;
-    println!(rt;
+    let _ = println!(rt;
         "end 00 {zeros} FF {ones} beyond {beyond} digest {}",
         ends.digest
-    )?;
+    );
     for n in NUMBERS {
         let tally = Tally::default().up_to(4, golay::encode(n), 0);
-        println!(rt; "decode {n:03X} {tally}")?;
+        let _ = println!(rt; "decode {n:03X} {tally}");
     }
-    println!(rt; "random 65536 {}", random())
-}
-
-fn main(rt: HostRuntime) -> io::Result<()> {
-    printed(&rt)
+    let _ = println!(rt; "random 65536 {}", random());
 }
