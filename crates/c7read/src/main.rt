@@ -5,7 +5,7 @@
 ghost use Rattle.house.specs.declared.Place.TheVariants.{Listing};
 ghost use Rattle.receiver.specs.State.{Able};
 
-use console::{Console, FULL, Program, SIZE, Taken};
+use console::{Console, FULL, Lent, SIZE, Taken};
 use house::{Fault, Place, Record};
 use receiver::Receiver;
 
@@ -65,7 +65,7 @@ impl Reading {
     }
 }
 
-impl Program for Reading {
+impl Lent for Reading {
     type Buffers = Buffers;
 
     const PLACE: Place = Place::Listing;
@@ -124,5 +124,5 @@ fn main(rt: HostRuntime) {
     };
     let at = block::put(&mut buffers.out, 0, &block[0..13]);
     let mut reading = Reading { receiver, at };
-    console.run(&mut reading, &mut buffers, start.unread, &mut block);
+    console.run_lent(&mut reading, &mut buffers, start.unread, &mut block);
 }

@@ -1,14 +1,19 @@
 // What every program that reads records does with standard input, output and error: an input block from which records are taken,
-// blocks out, and a line on whatever went wrong. What a program does with the records is its own: it is a `Program`.
+// blocks out, and a line on whatever went wrong. What a program does with the records is its own: it is `Lent` its buffers, or a
+// `Program` with buffers of its own.
 #![tactic(auto)]
 
 mod input;
 mod output;
+mod own;
 mod program;
 mod stretch;
+#[cfg(test)]
+mod tests;
 
 use house::Setup;
-pub use program::{Program, Refused, Taken};
+pub use own::Program;
+pub use program::{Lent, Refused, Taken};
 pub use stretch::{begin_of, bytes_of};
 
 // No input has so many blocks: a loop over them ends for this.

@@ -20,9 +20,9 @@ pub struct Taken {
     pub refused: Option<Refused>,
 }
 
-// What a program does with the records of its input. Its buffers are lent to it, so that what else it keeps from record to record is
+// What a program does with the records of its input, where its buffers are lent to it: what else it keeps from record to record is
 // small, and the compiler has it in registers.
-pub trait Program {
+pub trait Lent {
     type Buffers;
 
     // The records that it reads behind the setup.
@@ -54,7 +54,7 @@ pub trait Program {
 
 impl Console<'_> {
     // Takes block after block: a program's records, from this stretch on.
-    pub fn run<P: Program>(
+    pub fn run_lent<P: Lent>(
         self,
         program: &mut P,
         buffers: &mut P::Buffers,

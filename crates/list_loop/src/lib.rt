@@ -9,7 +9,7 @@ ghost use Rattle.house.specs.declared.Place.TheVariants as P;
 
 mod lanes;
 
-use console::{Console, FULL, Program, SIZE, Taken};
+use console::{Console, FULL, Lent, SIZE, Taken};
 use house::{Fault, Place, Record, Setup};
 use listing::Ten;
 use receiver::{Receiver, over};
@@ -154,7 +154,7 @@ impl Lister {
     }
 }
 
-impl Program for Lister {
+impl Lent for Lister {
     type Buffers = Buffers;
 
     const PLACE: Place = Place::Listing;
@@ -210,5 +210,5 @@ pub fn from_input(rt: &HostRuntime) {
         console.stop(0, Fault::Limits);
         return;
     };
-    console.run(&mut lister, &mut buffers, start.unread, &mut block);
+    console.run_lent(&mut lister, &mut buffers, start.unread, &mut block);
 }

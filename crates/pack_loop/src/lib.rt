@@ -4,7 +4,7 @@
 
 ghost use Rattle.house.specs.declared.Place.TheVariants.{Sending};
 
-use console::{Console, FULL, Program, Refused, SIZE, Taken};
+use console::{Console, FULL, Lent, Refused, SIZE, Taken};
 use house::{Place, Record};
 
 // Between two records: how much of the output block is held.
@@ -20,7 +20,7 @@ struct Buffers {
     out: [u8; 131072],
 }
 
-impl Program for Packing {
+impl Lent for Packing {
     type Buffers = Buffers;
 
     const PLACE: Place = Place::Sending;
@@ -84,5 +84,5 @@ pub fn from_input(rt: &HostRuntime) {
     };
     let at = packing::put_record(Record::Setup, &block[8..13], &mut buffers.out, 0);
     let mut packing = Packing { at };
-    console.run(&mut packing, &mut buffers, start.unread, &mut block);
+    console.run_lent(&mut packing, &mut buffers, start.unread, &mut block);
 }

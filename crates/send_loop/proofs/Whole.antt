@@ -59,7 +59,7 @@ went {a} {p} {d} {b} {t = t} (goes {setup = setup} {input = input} {unread = unr
     }
 
 -- emptied, the program goes on with what was read behind
-pub comes : (p q : Sending) (b : Buffers) (rest more : List ℕ) → Went p b rest → q.tp ≡ p.tp → world_of q b ≡ world_of p b → q.at ≡ 0
-    → Comes q b (rest ++ more)
-comes p q b rest more g tp w z =
-    goes (subst (λ (n : ℕ). Goes n g.setup g.world g.input rest g.held (world_of q b)) (sym tp) (subst (Goes p.tp g.setup g.world g.input rest g.held) (sym w) g.goes_so)) more refl z
+pub comes : (p q : Sending) (b d : Buffers) (rest more : List ℕ) → Went p b rest → q.tp ≡ p.tp → world_of q d ≡ world_of p b → q.at ≡ 0
+    → Comes q d (rest ++ more)
+comes p q b d rest more g tp w z =
+    goes (subst (λ (n : ℕ). Goes n g.setup g.world g.input rest g.held (world_of q d)) (sym tp) (subst (Goes p.tp g.setup g.world g.input rest g.held) (sym w) g.goes_so)) more refl z

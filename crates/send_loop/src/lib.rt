@@ -12,7 +12,7 @@ ghost use Rattle.sending.specs.Turn.{turn_of};
 ghost use Rattle.send_loop.specs.Running.{Ready, Sent};
 ghost use Rattle.send_loop.specs.Whole.{Comes, Went};
 
-use console::{Console, FULL, Program, Refused, SIZE, Taken};
+use console::{Console, FULL, Lent, Refused, SIZE, Taken};
 use house::{Fault, Place, Record, Setup};
 use sender::{Refusal, Sender};
 
@@ -105,7 +105,7 @@ impl Sending {
     }
 }
 
-impl Program for Sending {
+impl Lent for Sending {
     type Buffers = Buffers;
 
     const PLACE: Place = Place::Sending;
@@ -148,5 +148,5 @@ pub fn from_input(rt: &HostRuntime) {
         console.stop(0, Fault::Limits);
         return;
     };
-    console.run(&mut sending, &mut buffers, start.unread, &mut block);
+    console.run_lent(&mut sending, &mut buffers, start.unread, &mut block);
 }

@@ -5,7 +5,7 @@
 ghost use Rattle.house.specs.declared.Place.TheVariants.{Listing};
 ghost use Rattle.receiver.specs.State.{Able};
 
-use console::{Console, FULL, Program, Refused, SIZE, Taken};
+use console::{Console, FULL, Lent, Refused, SIZE, Taken};
 use house::{Fault, Place, Record};
 use receiver::Receiver;
 
@@ -65,7 +65,7 @@ impl Unpacking {
     }
 }
 
-impl Program for Unpacking {
+impl Lent for Unpacking {
     type Buffers = Buffers;
 
     const PLACE: Place = Place::Listing;
@@ -129,5 +129,5 @@ pub fn from_input(rt: &HostRuntime) {
         return;
     };
     let mut unpacking = Unpacking { receiver, at: 0 };
-    console.run(&mut unpacking, &mut buffers, start.unread, &mut block);
+    console.run_lent(&mut unpacking, &mut buffers, start.unread, &mut block);
 }

@@ -7,8 +7,8 @@ use Rattle.console.specs.Taking.{stretch}
 use Rattle.list_loop.specs.Rounds.{begins}
 use Rattle.list_loop.proofs.from_input.Goals as goal
 
-pub run-requires-clause-before : goal.run-requires-clause-before
-run-requires-clause-before c =
+pub run_lent-requires-clause-before : goal.run_lent-requires-clause-before
+run_lent-requires-clause-before c =
     let o = c.in-Some-open.ensures in
     let s = stretch c.first.new.block c.in-Some.start.unread in
     let size : length s ≤ length c.first.new.block = rw (length-take, length-drop) (omega arith) in

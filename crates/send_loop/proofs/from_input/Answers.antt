@@ -3,5 +3,5 @@
 use Rattle.send_loop.specs.Whole.{begins}
 use Rattle.send_loop.proofs.from_input.Goals as goal
 
-pub run-requires-clause-before : goal.run-requires-clause-before
-run-requires-clause-before c = let o = c.in-Ok.ensures in (o.0, begins _ o.1)
+pub run_lent-requires-clause-before : goal.run_lent-requires-clause-before
+run_lent-requires-clause-before c = let o = c.in-Ok.ensures in (o.0, begins _ o.1)

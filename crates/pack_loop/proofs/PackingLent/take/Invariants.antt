@@ -4,7 +4,7 @@ use Prim.Native.Nat.{◌-◌}
 use lib.ListN.{length}
 use Rattle.console.specs.Taking.{Whole}
 use Rattle.house.specs.declared.Place.TheVariants.{Sending}
-use Rattle.pack_loop.proofs.PackingProgram.take.Given as goal
+use Rattle.pack_loop.proofs.PackingLent.take.Given as goal
 
 abbrev pub invariant-loop-self : goal.invariant-loop-self
 invariant-loop-self l = Whole Sending l.unread l.bytes

@@ -3,7 +3,7 @@
 use native.Mathlib.Omega.{arith}
 use lib.ListN.{length-append}
 use Rattle.list_loop.proofs.Rounds.{comes}
-use Rattle.list_loop.proofs.ListerProgram.empty.Goals as goal
+use Rattle.list_loop.proofs.ListerLent.empty.Goals as goal
 
 pub returns : goal.returns
 returns c = λ begun lent n m rest more left size b. (

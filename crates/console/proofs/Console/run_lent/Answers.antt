@@ -1,4 +1,4 @@
--- `Console::run`: what the program holds behind the records taken, it holds before what is left with whatever was read behind it.
+-- `Console::run_lent`: what the program holds behind the records taken, it holds before what is left with whatever was read behind it.
 -- Assumes nothing.
 use Prim.Native.Nat.{ℕ, ◌+◌, ◌-◌, ◌*◌, ◌≤◌}
 use mathlib.Core.Path.{◌≡◌, ap, sym, subst, ◌∙◌}
@@ -10,7 +10,7 @@ use Rattle.console.specs.declared.TheConstants.{BLOCKS, SIZE}
 use Rattle.console.specs.declared.Unread.{Unread}
 use Rattle.console.proofs.Onward.{goes_on}
 use Rattle.console.proofs.Rounds.{behind_fits, behind_is, read_behind, goes_behind, read_most, both_most}
-use Rattle.console.proofs.Console.run.Goals as goal
+use Rattle.console.proofs.Console.run_lent.Goals as goal
 
 pub behind-requires : goal.behind-requires
 behind-requires g c =
@@ -38,11 +38,11 @@ loop-preserved g c =
     let most = read_most d (behind u k) b v in
     let size : length b ≡ SIZE = omega arith in
     let left : drop k c.bytes_of.result.now ≡ stretch d (behind u k) = ap (drop k) c.bytes_of.ensures ∙ behind_is d u k i.from (omega arith) within in
-    let taken : g.P.Program.Behind p c.take-taken.new.self c.take-taken.new.buffers n (stretch d (behind u k)) =
-    subst (λ (x : List ℕ). g.P.Program.Behind p c.take-taken.new.self c.take-taken.new.buffers n x) left (c.take-taken.ensures.behind p n (subst (λ (x : List ℕ). g.P.Program.Before p l.program l.buffers n x) (sym c.bytes_of.ensures) i.before)) in
+    let taken : g.P.Lent.Behind p c.take-taken.new.self c.take-taken.new.buffers n (stretch d (behind u k)) =
+    subst (λ (x : List ℕ). g.P.Lent.Behind p c.take-taken.new.self c.take-taken.new.buffers n x) left (c.take-taken.ensures.behind p n (subst (λ (x : List ℕ). g.P.Lent.Before p l.program l.buffers n x) (sym c.bytes_of.ensures) i.before)) in
     record {
       from = on.from;
       till = omega (arith, on.end);
       size = size;
-      before = subst (λ (x : List ℕ). g.P.Program.Before p c.empty.new.self c.take-taken.new.buffers m x) (goes_behind d (behind u k) b v on) (c.empty.ensures p c.take-taken.new.buffers n m (stretch d (behind u k)) more (omega arith) (omega (arith, both_most d (behind u k) b v on)) taken);
+      before = subst (λ (x : List ℕ). g.P.Lent.Before p c.empty.new.self c.take-taken.new.buffers m x) (goes_behind d (behind u k) b v on) (c.empty.ensures p c.take-taken.new.buffers n m (stretch d (behind u k)) more (omega arith) (omega (arith, both_most d (behind u k) b v on)) taken);
     }

@@ -1,7 +1,7 @@
 -- `Sending::take`: the records of a block are taken.
 -- Assumes nothing.
 use Rattle.send_loop.proofs.Whole.{went}
-use Rattle.send_loop.proofs.SendingProgram.take.Goals as goal
+use Rattle.send_loop.proofs.SendingLent.take.Goals as goal
 
 pub returns : goal.returns
 returns c =

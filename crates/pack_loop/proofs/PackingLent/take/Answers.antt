@@ -3,7 +3,7 @@
 use native.Mathlib.Omega.{arith}
 use Rattle.console.proofs.Records.{none_taken, record_fits, one_more}
 use Rattle.house.specs.declared.Place.TheVariants.{Sending}
-use Rattle.pack_loop.proofs.PackingProgram.take.Goals as goal
+use Rattle.pack_loop.proofs.PackingLent.take.Goals as goal
 
 pub loop-self-init : goal.loop-self-init
 loop-self-init c = none_taken Sending c.args.unread.now

@@ -5,7 +5,7 @@ use lib.ListN.{length}
 use Rattle.console.specs.Taking.{Whole}
 use Rattle.house.specs.declared.Place.TheVariants.{Listing}
 use Rattle.receiver.specs.State.{Able}
-use Rattle.unpack_loop.proofs.UnpackingProgram.take.Given as goal
+use Rattle.unpack_loop.proofs.UnpackingLent.take.Given as goal
 
 abbrev pub invariant-loop-self : goal.invariant-loop-self
 invariant-loop-self l = record { able : Able l.self.receiver; whole : Whole Listing l.unread l.bytes }

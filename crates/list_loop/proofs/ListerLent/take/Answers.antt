@@ -4,7 +4,7 @@ use mathlib.Core.Path.{refl}
 use native.Mathlib.Omega.{arith}
 use lib.ListN.{length-drop}
 use Rattle.list_loop.proofs.Rounds.{went, listed_whole}
-use Rattle.list_loop.proofs.ListerProgram.take.Goals as goal
+use Rattle.list_loop.proofs.ListerLent.take.Goals as goal
 
 pub returns-clause-whole : goal.returns-clause-whole
 returns-clause-whole c = listed_whole refl c.turns-self.ensures.listed

@@ -3,7 +3,7 @@
 use native.Mathlib.Omega.{arith}
 use Rattle.console.proofs.Records.{none_taken, record_fits, one_more}
 use Rattle.house.specs.declared.Place.TheVariants.{Listing}
-use Rattle.c7read.proofs.ReadingProgram.take.Goals as goal
+use Rattle.c7read.proofs.ReadingLent.take.Goals as goal
 
 pub loop-self-init : goal.loop-self-init
 loop-self-init c = record { able = c.requires.1.1; whole = none_taken Listing c.args.unread.now }
