@@ -8,7 +8,7 @@ use crate::{BLOCKS, Console, Lent, SIZE, Taken, Unread};
 use house::Place;
 use std::marker::PhantomData;
 
-// What a program does with the records of its input.
+// What a program does with the records of its input, where it keeps its buffers in itself.
 pub trait Program {
     // The records that it reads behind the setup.
     const PLACE: Place;
@@ -36,8 +36,8 @@ pub trait Program {
         ensures { (n m : ℕ) (rest more : List ℕ) → m + length more ≤ n → length rest + length more ≤ SIZE → Behind self.old n rest → Before self.new m (rest ++ more) };
 }
 
-// In the loop such a program is itself what is lent, to this. It is emptied when it is lent again, as nothing is lent for that: here
-// stands whether what it held is written and that is due.
+// Stands in the loop for such a program, which the loop lends to it. `empty` is lent nothing, so the program is emptied when more is
+// taken, or by `run` behind the last round: is_written says that this is due.
 #[derive(Drop)]
 struct Own<P> {
     is_written: bool,

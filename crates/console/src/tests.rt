@@ -1,11 +1,12 @@
-// `Console::run`, tried on a program that keeps its buffers in itself: no contract says when it is asked for what it holds, and emptied.
+// `Console::run`, tried on a program that keeps its buffers in itself: the contract of `run` doesn't say when the program is asked
+// for what it holds, and emptied.
 ghost use Rattle.house.specs.declared.Place.TheVariants.{Listing};
 
 use crate::{Console, Program, SIZE, Taken, Unread};
 use house::{Place, Record};
 use std::cell::Cell;
 
-// Takes a record in each round, and holds its data till they are written; counts the bytes taken and given out.
+// Takes a record in each round, and holds its data till it is emptied; counts the bytes taken and given out, and how often it is emptied.
 #[derive(Drop)]
 struct Copying {
     taken: usize,
@@ -50,7 +51,7 @@ impl Program for Copying {
     }
 }
 
-// Three records, then a bad one: each is taken once, and what the first two became is written and emptied before the next.
+// Three records, then a bad one: each is taken once, and what the first two became is asked for and emptied before the next.
 #[test]
 fn takes_and_empties(rt: HostRuntime) {
     let mut block = [0; SIZE];
